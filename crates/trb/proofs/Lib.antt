@@ -1,2 +1,6 @@
--- The laws of the layouts, of the cycle rule and of the burst counts, and readings from the bench.
+-- The laws of the layouts, of the cycle rule, of events and of the burst counts, and readings from the bench.
 pub mod BurstLaws
+pub mod CycleLaws
+pub mod EventLaws
+pub mod LayoutLaws
+pub mod Readings

@@ -102,6 +102,18 @@ layout (StopEndpoint endpoint slot) cycle =
 layout (SetDequeue address state endpoint slot) cycle =
     record { w0 = pointerLow address state; w1 = addressHigh address; w2 = []; w3 = commandControl cycle 16 endpoint slot }
 
+-- The type of each (6.4.6).
+abbrev pub kindOf : Trb → ℕ
+kindOf (Normal address length size target short chain interrupt) = 1
+kindOf (Setup kind request value index length transfer) = 2
+kindOf (Data address length short incoming) = 3
+kindOf (Status interrupt incoming) = 4
+kindOf (Isoch address length bursts target short chain interrupt block last frame asap) = 5
+kindOf (Link address toggle chain) = 6
+kindOf (ResetEndpoint endpoint slot) = 14
+kindOf (StopEndpoint endpoint slot) = 15
+kindOf (SetDequeue address state endpoint slot) = 16
+
 -- The words that have these fields.
 abbrev pub wordsIn : Layout → Words
 wordsIn l = record { w0 = word (l .w0); w1 = word (l .w1); w2 = word (l .w2); w3 = word (l .w3) }
