@@ -1,0 +1,125 @@
+// The producer's side of a ring of TRBs: ring.rs of the Rust, store by store.
+//
+// The ring is a lent slice of words, four a slot. Slots 0 to L-2 take TRBs, and slot L-1 takes the link, which leads back to slot 0. The
+// producer has a position: the place of the next store, and the cycle bit that it gets. A store changes the four words of one slot, which are
+// lent to the encoder as a part of the ring, and nothing else; then the place rises. At place L-1 the link is stored with the old cycle, and
+// the position goes round to place 0 with the cycle toggled. A TRB stored with the opposite cycle is not yet the controller's: the same TRB is
+// stored again, with the right one, when the rest of its TD stands behind it.
+//
+// This crate knows no transfer. What it asks of its callers is that a slot lies in the ring; the calls of the dock test it.
+ghost use mathlib.Core.Path.{_≡_};
+ghost use Prim.Native.Nat.{_+_, _*_, _^_, _<_, _≤_};
+ghost use lib.ListN.{length};
+ghost use Rattle.ring.specs.Ring.{storeAt, enqueTransfer, enqueDeferred, nextIndex, slotAddress, enqueuePointer, slotOf};
+use trb::Trb;
+
+// Where the next TRB goes, and the cycle bit that it gets.
+pub struct Position {
+    pub place: usize,
+    pub cycle: bool,
+}
+
+// One store: a TRB in a slot, with a cycle bit. By itself it is the second store of a TRB that was stored with the opposite cycle
+// (`set_transfer_trb` of the Rust).
+pub fn set_transfer_trb(ring: &mut [u32], place: usize, trb: Trb, cycle: bool)
+    requires { ⌜ 4 * place + 4 ≤ length (now ring) ⌝ }
+    ensures { λ _. ⌜ now (ring .exit) ≡ storeAt (now (ring .entry)) place trb cycle ⌝ }
+{
+    let start = 4 * place;
+    trb::encode(&mut ring[start..start + 4], trb, cycle);
+}
+
+// A TRB at the place, with the current cycle; the place rises.
+pub fn enque_transfer(ring: &mut [u32], p: Position, trb: Trb) -> Position
+    requires { ⌜ 4 * p .place + 4 ≤ length (now ring) ⌝ }
+    ensures { λ r. ⌜ (r, now (ring .exit)) ≡ enqueTransfer (now (ring .entry)) p trb ⌝ }
+{
+    let place = p.place;
+    let cycle = p.cycle;
+    set_transfer_trb(ring, place, trb, cycle);
+    Position {
+        place: place + 1,
+        cycle,
+    }
+}
+
+// The same with the opposite cycle: the controller does not take it yet.
+pub fn enque_transfer_deferred_cycle(ring: &mut [u32], p: Position, trb: Trb) -> Position
+    requires { ⌜ 4 * p .place + 4 ≤ length (now ring) ⌝ }
+    ensures { λ r. ⌜ (r, now (ring .exit)) ≡ enqueDeferred (now (ring .entry)) p trb ⌝ }
+{
+    let place = p.place;
+    let cycle = p.cycle;
+    set_transfer_trb(ring, place, trb, !cycle);
+    Position {
+        place: place + 1,
+        cycle,
+    }
+}
+
+// The link at the place, which is the last slot, with the old cycle; then place 0 and the cycle toggled. `chain` says that a TD goes on behind it.
+pub fn next_index(ring: &mut [u32], p: Position, base: u64, chain: bool) -> Position
+    requires { ⌜ 4 * p .place + 4 ≤ length (now ring) ⌝ }
+    ensures { λ r. ⌜ (r, now (ring .exit)) ≡ nextIndex (now (ring .entry)) p base chain ⌝ }
+{
+    let place = p.place;
+    let cycle = p.cycle;
+    let link = Trb::Link {
+        address: base,
+        toggle: true,
+        chain,
+    };
+    set_transfer_trb(ring, place, link, cycle);
+    Position {
+        place: 0,
+        cycle: !cycle,
+    }
+}
+
+// The address of a slot.
+pub fn trb_bus_addr(base: u64, place: usize) -> u64
+    requires { ⌜ base + 16 * place < 2 ^ 64 ⌝ }
+    ensures { λ r. ⌜ r ≡ slotAddress base place ⌝ }
+{
+    base + 16 * (place as u64)
+}
+
+// Where the producer stands, as a command tells it to the controller.
+pub struct Pointer {
+    pub address: u64,
+    pub cycle: bool,
+}
+
+pub fn enqueue_pointer(base: u64, p: Position) -> Pointer
+    requires { ⌜ base + 16 * p .place < 2 ^ 64 ⌝ }
+    ensures { λ r. ⌜ r ≡ enqueuePointer base p ⌝ }
+{
+    let place = p.place;
+    Pointer {
+        address: trb_bus_addr(base, place),
+        cycle: p.cycle,
+    }
+}
+
+// The slot that an address names, if it is one of the ring's.
+pub enum Slot {
+    At(usize),
+    Outside,
+}
+
+pub fn slot_of(base: u64, slots: usize, address: u64) -> Slot
+    ensures { λ r. ⌜ r ≡ slotOf base slots address ⌝ }
+{
+    if address < base {
+        return Slot::Outside;
+    }
+    let offset = address - base;
+    if offset % 16 != 0 {
+        return Slot::Outside;
+    }
+    let at = (offset / 16) as usize;
+    if slots <= at {
+        return Slot::Outside;
+    }
+    Slot::At(at)
+}
