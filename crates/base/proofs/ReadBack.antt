@@ -6,10 +6,10 @@ use mathlib.Core.Path.{_≡_, refl, sym, ap, _∙_}
 use native.Mathlib.Nat.{mul-assoc, mul-comm, add-comm, mod-lt, mod-eq-of-lt, add-mul, sub-add-cancel, lt-of-mul-lt-mul-right, mul-le-mul-right, suc-mul}
 use native.Mathlib.Omega.{arith}
 use borrow.Author.Tests.{leb-true}
-use lib.Dec.{leb}
+use lib.Dec.{leb, eqb}
 use lib.ListN.{length, getD}
 use lib.Pow.{pow-add, pow-pos, pow-mono, low, high, shl-lt, shl-shr, shr-shr}
-use Rattle.base.specs.Fields.{Field, field, word, bits, rising}
+use Rattle.base.specs.Fields.{Field, field, flag, word, bits, rising}
 
 -- A multiple of a higher power is one of a lower.
 lower : (q m n : ℕ) → n ≤ m → (p : ℕ) × (q * 2 ^ m ≡ p * 2 ^ n)
@@ -128,3 +128,8 @@ word-below from to (f ∷ fs) r =
     let whole-to : 2 ^ (to - m) * 2 ^ m ≡ 2 ^ to = sym (pow-add 2 (to - m) m) ∙ ap (λ (k : ℕ). 2 ^ k) (sub-add-cancel end) in
     let under : rest .0 * 2 ^ m < 2 ^ (to - m) * 2 ^ m = rw (whole-to, sym (rest .1)) (word-below m to fs more) in
     rw (rest .1, sym whole-to) (room (rest .0) (2 ^ (to - m)) (v * 2 ^ f .at) (2 ^ m) under small)
+
+-- A field of one bit that holds a flag is the flag.
+pub flag-read : (b : Bool) → eqb (flag b % 2 ^ 1) 1 ≡ b
+flag-read true = refl
+flag-read false = refl

@@ -1,23 +1,18 @@
 -- The stores against the standard's cycle rule (`Rattle.trb.specs.Cycle`, 4.9.2): the producer's positions are the standard's, a deferred TRB is not
 -- the consumer's, and a store lands whole in one slot and leaves every other slot as it was. Assumes nothing.
-use Prim.Native.Nat.{ℕ, zero, suc, _+_, _*_, _%_, _^_, _≤_, _<_}
+use Prim.Native.Nat.{ℕ, _+_, _*_, _%_, _^_, _≤_, _<_}
 use mathlib.Core.Bool.{Bool, true, false, not, Bool·beq}
-use mathlib.Core.List.{List, [], _∷_}
-use mathlib.Core.Path.{_≡_, refl, sym, ap, _∙_}
-use native.Mathlib.Omega.{arith}
-use lib.ListN.{length, getD}
-use Rattle.base.specs.Part.{put}
-use Rattle.base.proofs.Compare.{compared}
-use Rattle.base.proofs.Lent.{put-length, put-same, put-before, put-behind}
-use Rattle.trb.specs.Layouts.{wordsOf, listed, kindOf}
+use mathlib.Core.List.{List}
+use mathlib.Core.Path.{_≡_, refl, _∙_}
+use lib.ListN.{length}
+use Rattle.trb.specs.Layouts.{wordsOf, wordsAt, kindOf}
 use Rattle.trb.specs.Cycle.{past, owned}
 use Rattle.trb.specs.Cycle as cycle
-use Rattle.trb.specs.declared.Words.{Words}
 use Rattle.trb.specs.declared.Trb.{Trb}
+use Rattle.trb.proofs.BlockLaws.{words-length, words-same, words-other}
 use Rattle.trb.proofs.CycleLaws.{past-other, past-link, owned-is}
-use Rattle.ring.specs.Ring.{slotWords, storeAt, onward, around, linkTrb}
+use Rattle.ring.specs.Ring.{storeAt, onward, around, linkTrb}
 use Rattle.ring.specs.declared.Position.{Position}
-use mathlib.Core.Logic.{⊎-elim}
 
 -- A position as the standard has it: the enqueue pointer's slot, and the producer's cycle state.
 abbrev pub pointer : Position → cycle.Pointer
@@ -49,39 +44,17 @@ hidden t p = owned-is t (not (p .cycle)) (pointer p) ∙ beq-not (p .cycle)
 
 -- ---- one slot only
 
-same-words : {a b c d a′ b′ c′ d′ : ℕ} → a ≡ a′ → b ≡ b′ → c ≡ c′ → d ≡ d′
-    → _≡_ {A = Words} (record { w0 = a; w1 = b; w2 = c; w3 = d }) (record { w0 = a′; w1 = b′; w2 = c′; w3 = d′ })
-same-words p q r s = λ i. record { w0 = p i; w1 = q i; w2 = r i; w3 = s i }
-
 module _ (ring : List ℕ) (place : ℕ) (t : Trb) (c : Bool) (fits : 4 * place + 4 ≤ length ring) where
   pub store-length : length (storeAt ring place t c) ≡ length ring
   unfolding storeAt
-  store-length = put-length 4 ring place (listed (wordsOf t c)) refl fits
-
-  first-word : getD (storeAt ring place t c) (4 * place) 0 ≡ wordsOf t c .w0
-  unfolding storeAt
-  first-word =
-      let at : 4 * place + 0 ≡ 4 * place = omega arith in
-      ap (λ (n : ℕ). getD (storeAt ring place t c) n 0) (sym at) ∙ put-same 4 ring place (listed (wordsOf t c)) refl fits 0 (omega arith)
+  store-length = words-length ring place (wordsOf t c) fits
 
   -- The store lands whole.
-  pub store-same : slotWords (storeAt ring place t c) place ≡ wordsOf t c
-  unfolding slotWords storeAt
-  store-same =
-      let word = put-same 4 ring place (listed (wordsOf t c)) refl fits in
-      same-words first-word (word 1 (omega arith)) (word 2 (omega arith)) (word 3 (omega arith))
+  pub store-same : wordsAt (storeAt ring place t c) place ≡ wordsOf t c
+  unfolding storeAt
+  store-same = words-same ring place (wordsOf t c) fits
 
   -- Every other slot is as it was.
-  pub store-other : (i : ℕ) → (i ≡ place → ⊥) → slotWords (storeAt ring place t c) i ≡ slotWords ring i
-  unfolding slotWords storeAt
-  store-other i differs =
-      ⊎-elim
-      (λ (e : i ≡ place). absurd (differs e))
-      (⊎-elim
-      (λ (l : i < place).
-      let old = put-before 4 ring place (listed (wordsOf t c)) refl fits in
-      same-words (old (4 * i) (omega arith)) (old (4 * i + 1) (omega arith)) (old (4 * i + 2) (omega arith)) (old (4 * i + 3) (omega arith)))
-      (λ (l : place < i).
-      let old = put-behind 4 ring place (listed (wordsOf t c)) refl fits in
-      same-words (old (4 * i) (omega arith)) (old (4 * i + 1) (omega arith)) (old (4 * i + 2) (omega arith)) (old (4 * i + 3) (omega arith))))
-      (compared i place)
+  pub store-other : (i : ℕ) → (i ≡ place → ⊥) → wordsAt (storeAt ring place t c) i ≡ wordsAt ring i
+  unfolding storeAt
+  store-other i differs = words-other ring place (wordsOf t c) fits i differs

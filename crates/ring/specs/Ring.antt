@@ -3,11 +3,8 @@ use Prim.Native.Nat.{ℕ, _+_, _-_, _*_, _/_, _%_}
 use mathlib.Core.Bool.{Bool, true, false, not, _&&_}
 use mathlib.Core.List.{List}
 use lib.Dec.{leb, ltb, eqb}
-use lib.ListN.{getD}
 use Rattle.base.specs.First.{pick}
-use Rattle.base.specs.Part.{put}
-use Rattle.trb.specs.Layouts.{wordsOf, listed}
-use Rattle.trb.specs.declared.Words.{Words}
+use Rattle.trb.specs.Layouts.{wordsOf, putWords}
 use Rattle.trb.specs.declared.Trb.{Trb}
 use Rattle.trb.specs.declared.Trb.the-variants.{Link}
 use Rattle.ring.specs.declared.Position.{Position}
@@ -15,14 +12,9 @@ use Rattle.ring.specs.declared.Pointer.{Pointer}
 use Rattle.ring.specs.declared.Slot.{Slot}
 use Rattle.ring.specs.declared.Slot.the-variants.{At, Outside}
 
--- The four words of a slot.
-unfoldable pub slotWords : List ℕ → ℕ → Words
-slotWords ring i =
-    record { w0 = getD ring (4 * i) 0; w1 = getD ring (4 * i + 1) 0; w2 = getD ring (4 * i + 2) 0; w3 = getD ring (4 * i + 3) 0 }
-
 -- One store: the TRB's words with this cycle bit in the slot, and every other word as it was.
 unfoldable pub storeAt : List ℕ → ℕ → Trb → Bool → List ℕ
-storeAt ring place trb cycle = put 4 ring place (listed (wordsOf trb cycle))
+storeAt ring place trb cycle = putWords ring place (wordsOf trb cycle)
 
 -- The position after a TRB: one place on, under the same cycle.
 abbrev pub onward : Position → Position

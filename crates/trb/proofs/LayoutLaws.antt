@@ -9,7 +9,7 @@ use native.Mathlib.Omega.{arith}
 use lib.Dec.{eqb}
 use lib.ListN.{length, getD}
 use Rattle.base.specs.Fields.{Field, field, flag, word, bits, rising}
-use Rattle.base.proofs.ReadBack.{read-back, word-below}
+use Rattle.base.proofs.ReadBack.{read-back, word-below, flag-read}
 use Rattle.trb.specs.Layouts.{Layout, layout, wordsOf, listed, kindOf}
 use Rattle.trb.specs.Cycle.{cycleOf, typeOf, toggles, pointsTo}
 use Rattle.trb.specs.declared.Words.{Words}
@@ -110,10 +110,6 @@ headed (Link address toggle chain) cycle = record { first = refl; kind = refl; w
 headed (ResetEndpoint endpoint slot) cycle = record { first = refl; kind = refl; within = omega arith; small = omega arith }
 headed (StopEndpoint endpoint slot) cycle = record { first = refl; kind = refl; within = omega arith; small = omega arith }
 headed (SetDequeue address state endpoint slot) cycle = record { first = refl; kind = refl; within = omega arith; small = omega arith }
-
-flag-read : (b : Bool) → eqb (flag b % 2 ^ 1) 1 ≡ b
-flag-read true = refl
-flag-read false = refl
 
 -- A field that is known, read back.
 known : (w : ℕ) (f g : Field) → f ≡ g → bits (f .at) (f .wide) w ≡ f .value % 2 ^ f .wide → bits (g .at) (g .wide) w ≡ g .value % 2 ^ g .wide

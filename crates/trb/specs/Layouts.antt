@@ -1,9 +1,11 @@
 -- The layout of each TRB, field by field (offset, width, value), as the xHCI specification 1.2 has it in section 6.4. Bits that no field names
 -- are 0: reserved, or fields of the standard that the dock leaves 0. Document 01, "Words of a TRB".
-use Prim.Native.Nat.{ℕ, _/_, _^_}
+use Prim.Native.Nat.{ℕ, _+_, _*_, _/_, _^_}
 use mathlib.Core.Bool.{Bool, true, false}
 use mathlib.Core.List.{List, [], _∷_}
+use lib.ListN.{getD}
 use Rattle.base.specs.Fields.{Field, field, flag, word}
+use Rattle.base.specs.Part.{put}
 use Rattle.trb.specs.declared.Words.{Words}
 use Rattle.trb.specs.declared.Trb.{Trb}
 use Rattle.trb.specs.declared.Trb.the-variants.{Normal, Setup, Data, Status, Isoch, Link, ResetEndpoint, StopEndpoint, SetDequeue}
@@ -125,3 +127,11 @@ wordsOf trb cycle = wordsIn (layout trb cycle)
 -- Four words as they stand in a table, w0 first.
 abbrev pub listed : Words → List ℕ
 listed w = w .w0 ∷ w .w1 ∷ w .w2 ∷ w .w3 ∷ []
+
+-- The four words of block i of a table of four words a block, as the slots of a ring and the places of the finished table are.
+unfoldable pub wordsAt : List ℕ → ℕ → Words
+wordsAt l i = record { w0 = getD l (4 * i) 0; w1 = getD l (4 * i + 1) 0; w2 = getD l (4 * i + 2) 0; w3 = getD l (4 * i + 3) 0 }
+
+-- The table with these four words in block i, and every other word as it was.
+unfoldable pub putWords : List ℕ → ℕ → Words → List ℕ
+putWords l i w = put 4 l i (listed w)

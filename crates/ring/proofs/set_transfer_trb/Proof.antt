@@ -2,13 +2,14 @@
 use native.Mathlib.Omega.{arith}
 use denote.Ref.{now}
 use Rattle.base.proofs.Lent.{lent}
+use Rattle.trb.specs.Layouts.{putWords}
 use Rattle.ring.specs.Ring.{storeAt}
 use borrow.Author.Needs.{needs}
 use Rattle.ring.proofs.set_transfer_trb.Statement.{statement}
 use Rattle.ring.proofs.set_transfer_trb.Tie as tie
 
 returns : tie.Need-returns
-unfolding storeAt
+unfolding storeAt putWords
 returns c =
     let a = c .before .before .before .before .before .args in
     lent 4 (now (a .ring)) (a .place) _ (omega arith) (c .before .before .encode .ensures)
