@@ -12,7 +12,7 @@ use Rattle.base.specs.Fields.{flag}
 use Rattle.base.specs.Part.{put}
 use Rattle.base.proofs.Compare.{compared}
 use Rattle.base.proofs.Lent.{put-same, put-before, put-behind}
-use Rattle.table.specs.Free.{recordWords, idAt}
+use Rattle.ids.specs.Free.{recordWords, idAt}
 use Rattle.table.specs.Records.{wordAt, isSet, recordAt, recordList, setWord}
 use Rattle.table.specs.declared.records.Record.{Record}
 

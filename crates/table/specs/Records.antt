@@ -5,7 +5,7 @@ use mathlib.Core.List.{List, [], _∷_}
 use lib.Dec.{eqb}
 use lib.ListN.{getD, set}
 use Rattle.base.specs.Fields.{flag}
-use Rattle.table.specs.Free.{recordWords, idAt}
+use Rattle.ids.specs.Free.{recordWords, idAt}
 use Rattle.table.specs.declared.records.Record.{Record}
 
 -- The kinds of a request, and the states of a held record.

@@ -5,9 +5,9 @@ ghost use Prim.Native.Nat.{_+_, _*_, _<_};
 ghost use lib.ListN.{length, set};
 ghost use Rattle.base.specs.Fields.{flag};
 ghost use Rattle.base.specs.Part.{filled, put};
-ghost use Rattle.table.specs.Free.{recordWords, recordCount};
+ghost use Rattle.ids.specs.Free.{recordWords, recordCount};
 ghost use Rattle.table.specs.Records.{recordAt, recordList, setWord};
-use crate::search::RECORD_WORDS;
+use ids::RECORD_WORDS;
 
 // What a request's later stores and its completion need.
 pub struct Record {

@@ -6,8 +6,8 @@ use Prim.Native.Nat.{ℕ, zero, suc, _*_, _<_}
 use lib.Dec.{eqb}
 use lib.ListN.{getD}
 use Rattle.mask.specs.Bit.{bit}
-use Rattle.table.specs.Order.{afterId, afterN}
-use Rattle.table.specs.declared.search.Taken.{Taken}
+use Rattle.ids.specs.Order.{afterId, afterN}
+use Rattle.ids.specs.declared.Taken.{Taken}
 
 -- Is record r held, and has it the id x?
 unfoldable pub heldBy : (ℕ → ℕ) → (ℕ → ℕ) → ℕ → ℕ → Bool

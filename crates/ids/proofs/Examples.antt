@@ -4,10 +4,10 @@ use mathlib.Core.List.{[], _∷_}
 use Prim.Native.Nat.{ℕ, _+_, _-_, _^_}
 use lib.ListN.{getD}
 use Rattle.mask.specs.Bit.{bit}
-use Rattle.table.specs.Order.{afterId}
-use Rattle.table.specs.Free.{heldBy, any, freeFrom, freeId, freeIn}
-use Rattle.table.specs.Lookup.{findFrom, findId}
-use Rattle.table.specs.declared.search.Lookup.the-variants.{At, Nothing}
+use Rattle.ids.specs.Order.{afterId}
+use Rattle.ids.specs.Free.{heldBy, any, freeFrom, freeId, freeIn}
+use Rattle.ids.specs.Lookup.{findFrom, findId}
+use Rattle.ids.specs.declared.Lookup.the-variants.{At, Nothing}
 
 -- the next id 2^64 - 1 is taken, and 1 comes next
 last-taken : freeIn [] 0 (2 ^ 64 - 1) ≡ 2 ^ 64 - 1

@@ -1,4 +1,4 @@
--- `table::search::find_id` meets its contract: no record below `at` holds the id. Assumes nothing.
+-- `ids::find_id` meets its contract: no record below `at` holds the id. Assumes nothing.
 use mathlib.Core.Path.{_≡_, sym, _∙_}
 use mathlib.Core.Bool.{false}
 use mathlib.Core.Logic.{⊎-elim}
@@ -8,12 +8,12 @@ use borrow.Author.Needs.{needs}
 use borrow.Author.Count.{below-more}
 use Rattle.base.proofs.Decide.{by-eqb, if-so, if-not}
 use Rattle.mask.specs.Bit.{bit}
-use Rattle.table.specs.Free.{recordCount, idAt, heldBy}
-use Rattle.table.specs.declared.search.Lookup.the-variants.{At, Nothing}
-use Rattle.table.proofs.AnyLaws.{by-held}
-use Rattle.table.proofs.LookupLaws.{find-computed}
-use Rattle.table.proofs.search.find_id.Statement.{statement}
-use Rattle.table.proofs.search.find_id.Tie as tie
+use Rattle.ids.specs.Free.{recordCount, idAt, heldBy}
+use Rattle.ids.specs.declared.Lookup.the-variants.{At, Nothing}
+use Rattle.ids.proofs.AnyLaws.{by-held}
+use Rattle.ids.proofs.LookupLaws.{find-computed}
+use Rattle.ids.proofs.find_id.Statement.{statement}
+use Rattle.ids.proofs.find_id.Tie as tie
 
 abbrev Inv-loop : tie.InvT-loop
 Inv-loop records mask id at₀ at = (at ≤ recordCount) × ((k : ℕ) → k < at → heldBy (bit mask) (idAt records) id k ≡ false)

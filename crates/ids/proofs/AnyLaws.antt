@@ -8,8 +8,8 @@ use native.Mathlib.Nat.{eq-or-lt-of-le, le-of-suc-le-suc}
 use native.Mathlib.Omega.{arith}
 use borrow.Author.Tests.{eq-eqb, ne-eqb}
 use Rattle.base.proofs.Decide.{Decides, both, by-eqb}
-use Rattle.table.specs.Order.{afterId}
-use Rattle.table.specs.Free.{any, heldBy}
+use Rattle.ids.specs.Order.{afterId}
+use Rattle.ids.specs.Free.{any, heldBy}
 
 pub true-or-false : (b : Bool) → (b ≡ true) ⊎ (b ≡ false)
 true-or-false true = inl refl

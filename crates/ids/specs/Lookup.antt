@@ -4,9 +4,9 @@ use mathlib.Core.Bool.{Bool, true, false}
 use mathlib.Core.List.{List}
 use Prim.Native.Nat.{ℕ, zero, suc, _<_}
 use Rattle.mask.specs.Bit.{bit}
-use Rattle.table.specs.Free.{heldBy, recordCount, idAt}
-use Rattle.table.specs.declared.search.Lookup.{Lookup}
-use Rattle.table.specs.declared.search.Lookup.the-variants.{At, Nothing}
+use Rattle.ids.specs.Free.{heldBy, recordCount, idAt}
+use Rattle.ids.specs.declared.Lookup.{Lookup}
+use Rattle.ids.specs.declared.Lookup.the-variants.{At, Nothing}
 
 -- The first of n records that passes the test, from record r on.
 unfoldable pub findFrom : ℕ → (ℕ → Bool) → ℕ → Lookup

@@ -2,9 +2,9 @@
 ghost use mathlib.Core.Path.{_≡_};
 ghost use Prim.Native.Nat.{_*_, _<_};
 ghost use lib.ListN.{length};
-ghost use Rattle.table.specs.Order.{afterId};
-ghost use Rattle.table.specs.Free.{recordWords, recordCount, freeIn, taken};
-ghost use Rattle.table.specs.Lookup.{findIn};
+ghost use Rattle.ids.specs.Order.{afterId};
+ghost use Rattle.ids.specs.Free.{recordWords, recordCount, freeIn, taken};
+ghost use Rattle.ids.specs.Lookup.{findIn};
 
 // The words of a record, of which the first is its id.
 pub const RECORD_WORDS: usize = 12;

@@ -7,12 +7,12 @@ use Prim.Native.Nat.{ℕ, zero, suc, _+_, _-_, _^_, _≤_, _<_}
 use native.Mathlib.Nat.{eq-or-lt-of-le, le-of-suc-le-suc}
 use native.Mathlib.Omega.{arith}
 use Rattle.base.proofs.Compare.{lt-or-le}
-use Rattle.table.specs.Free.{heldBy, isHeld, freeId}
-use Rattle.table.specs.Lookup.{findFrom, findId, Lowest, Finds}
-use Rattle.table.specs.declared.search.Lookup.{Lookup}
-use Rattle.table.specs.declared.search.Lookup.the-variants.{At, Nothing}
-use Rattle.table.proofs.AnyLaws.{true-or-false, never-both, any-false}
-use Rattle.table.proofs.SearchLaws.{answer-free}
+use Rattle.ids.specs.Free.{heldBy, isHeld, freeId}
+use Rattle.ids.specs.Lookup.{findFrom, findId, Lowest, Finds}
+use Rattle.ids.specs.declared.Lookup.{Lookup}
+use Rattle.ids.specs.declared.Lookup.the-variants.{At, Nothing}
+use Rattle.ids.proofs.AnyLaws.{true-or-false, never-both, any-false}
+use Rattle.ids.proofs.SearchLaws.{answer-free}
 
 -- ---- the property leaves no choice
 

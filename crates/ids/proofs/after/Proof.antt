@@ -1,9 +1,9 @@
--- `table::search::after` meets its contract. Assumes nothing.
+-- `ids::after` meets its contract. Assumes nothing.
 use mathlib.Core.Path.{sym}
 use borrow.Author.Needs.{needs}
-use Rattle.table.proofs.AnyLaws.{after-last, after-more}
-use Rattle.table.proofs.search.after.Statement.{statement}
-use Rattle.table.proofs.search.after.Tie as tie
+use Rattle.ids.proofs.AnyLaws.{after-last, after-more}
+use Rattle.ids.proofs.after.Statement.{statement}
+use Rattle.ids.proofs.after.Tie as tie
 
 returns : tie.Need-returns
 returns c = sym (after-last (c .before .args .id) (c .if1 .taken))

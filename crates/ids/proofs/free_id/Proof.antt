@@ -1,4 +1,4 @@
--- `table::search::free_id` meets its contract. Assumes nothing.
+-- `ids::free_id` meets its contract. Assumes nothing.
 -- The outer loop: the candidate is one that the search of the definition reaches (`Trying`); the measure is the steps that are left of 64.
 -- The inner loop: no record below r holds the candidate; the measure is the records that are left.
 use mathlib.Core.Path.{_≡_, refl, sym, ap, _∙_}
@@ -10,11 +10,11 @@ use borrow.Author.Needs.{needs}
 use borrow.Author.Count.{below-more}
 use Rattle.base.proofs.Decide.{by-eqb, if-not}
 use Rattle.mask.specs.Bit.{bit}
-use Rattle.table.specs.Free.{recordCount, idAt, heldBy, taken}
-use Rattle.table.proofs.AnyLaws.{any-none, by-held}
-use Rattle.table.proofs.SearchLaws.{dist, Trying, trying-start, trying-next, trying-done}
-use Rattle.table.proofs.search.free_id.Statement.{statement}
-use Rattle.table.proofs.search.free_id.Tie as tie
+use Rattle.ids.specs.Free.{recordCount, idAt, heldBy, taken}
+use Rattle.ids.proofs.AnyLaws.{any-none, by-held}
+use Rattle.ids.proofs.SearchLaws.{dist, Trying, trying-start, trying-next, trying-done}
+use Rattle.ids.proofs.free_id.Statement.{statement}
+use Rattle.ids.proofs.free_id.Tie as tie
 
 abbrev Inv-loop : tie.InvT-loop
 Inv-loop records mask next candidate₀ r₀ candidate r =

@@ -16,9 +16,9 @@ use Rattle.base.proofs.Decide.{if-so}
 use Rattle.mask.specs.Bit.{sum}
 use Rattle.base.proofs.Compare.{lt-or-le}
 use Rattle.mask.proofs.SumLaws.{sum-le, sum-one, sum-less}
-use Rattle.table.specs.Order.{afterId, afterN}
-use Rattle.table.specs.Free.{heldBy, isHeld, freeFrom, freeId, FirstFree}
-use Rattle.table.proofs.AnyLaws.{true-or-false, never-both, any-one, any-found, by-held, after-last, after-more}
+use Rattle.ids.specs.Order.{afterId, afterN}
+use Rattle.ids.specs.Free.{heldBy, isHeld, freeFrom, freeId, FirstFree}
+use Rattle.ids.proofs.AnyLaws.{true-or-false, never-both, any-one, any-found, by-held, after-last, after-more}
 
 -- ---- `freeFrom`, one step
 
