@@ -1,0 +1,64 @@
+-- Row 1 of "When the dock says no", as far as the endpoint and the records tell it.
+use Prim.Native.Nat.{ℕ, _+_}
+use mathlib.Core.Bool.{Bool, true, false, not, _&&_, _||_}
+use mathlib.Core.List.{List}
+use lib.Dec.{eqb, ltb, leb}
+use lib.ListN.{length}
+use Rattle.base.specs.First.{pick}
+use Rattle.mask.specs.Bit.{bit}
+use Rattle.ids.specs.Free.{recordCount}
+use Rattle.table.specs.Records.{control, inFlight, recordAt}
+use Rattle.table.specs.declared.records.Record.{Record}
+use Rattle.dock.specs.declared.Endpoint.{Endpoint}
+use Rattle.dock.specs.Limits.{limitsHold, recordsSize}
+use Rattle.dock.specs.Stores.{trbCount}
+
+-- "Place above L-2 except L-1 just before the link's store": with a submission under way of which a TRB is stored. Its setup's place is one too.
+unfoldable pub placesFit : Endpoint → Bool
+placesFit e =
+    (ltb (e .at .place + 1) (e .shape .slots) || (eqb (e .at .place + 1) (e .shape .slots) && e .work .busy && ltb 0 (e .work .stored)))
+    && (not (e .work .busy) || ltb (e .work .place + 1) (e .shape .slots))
+
+-- "L, base, dci or slot id outside the above, place above L-2 .., next id 0": none of it.
+unfoldable pub fits : Endpoint → Bool
+fits e =
+    limitsHold (e .shape .slots) (e .shape .base) (e .who .slot) (e .who .dci)
+    && placesFit e
+    && not (eqb (e .account .next) 0)
+
+-- What the next store of a submission is: the link where the place is L-1, else the next TRB, else for control the setup again.
+pub data Next : Type 0 where
+  theLink : Next
+  theTrb : Next
+  theSetup : Next
+  none : Next
+
+unfoldable pub nextOf : Endpoint → Record → Next
+nextOf e v =
+    pick (eqb (e .at .place + 1) (e .shape .slots)) theLink
+    (pick (ltb (e .work .stored) (trbCount v)) theTrb
+    (pick (eqb (v .kind) control && eqb (e .work .stored) (trbCount v)) theSetup none))
+
+abbrev pub isNone : Next → Bool
+isNone theLink = false
+isNone theTrb = false
+isNone theSetup = false
+isNone none = true
+
+-- A record is held and in flight.
+abbrev pub flies : List ℕ → ℕ → ℕ → Bool
+flies records occupancy r = eqb (bit occupancy r) 1 && eqb (recordAt records r .state) inFlight
+
+-- "A store number past its request's stores": a submission under way whose record is no held one in flight, or whose stores are all made.
+unfoldable pub strays : Endpoint → List ℕ → Bool
+strays e records =
+    e .work .busy
+    && not
+    (ltb (e .work .number) recordCount
+    && flies records (e .account .occupancy) (e .work .number)
+    && leb (e .work .stored) (trbCount (recordAt records (e .work .number)))
+    && not (isNone (nextOf e (recordAt records (e .work .number)))))
+
+-- Row 1 of a call that is lent the records.
+unfoldable pub fitsWith : Endpoint → List ℕ → Bool
+fitsWith e records = fits e && eqb (length records) recordsSize && not (strays e records)

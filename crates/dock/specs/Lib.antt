@@ -1,0 +1,19 @@
+-- The definitions of the dock: what it may hold, its state, and one file for each call, in document 01's order and words.
+pub mod Limits
+pub mod State
+pub mod Requests
+pub mod Stores
+pub mod Fit
+pub mod Make
+pub mod Configure
+pub mod Start
+pub mod Store
+pub mod Submit
+pub mod HandOver
+pub mod Worth
+pub mod Reclaim
+pub mod Cancel
+pub mod Retire
+pub mod Reset
+pub mod Commands
+pub mod Numbers

@@ -1,0 +1,39 @@
+-- Document 01, "What a dock may hold": every limit once, by its name.
+use Prim.Native.Nat.{ℕ, _+_, _*_, _%_, _^_}
+use mathlib.Core.Bool.{Bool, _&&_}
+use lib.Dec.{leb, eqb}
+use Rattle.ids.specs.Free.{recordCount, recordWords}
+use Rattle.table.specs.Packets.{packetCount}
+
+-- "Slots L: 3 to 4,096."
+abbrev pub slotsFit : ℕ → Bool
+slotsFit slots = leb 3 slots && leb slots 4096
+
+-- "Base: a multiple of 4,096, base + 16L at most 2^64."
+abbrev pub baseFits : ℕ → ℕ → Bool
+baseFits base slots = eqb (base % 4096) 0 && leb (base + 16 * slots) (2 ^ 64)
+
+-- "dci 1 to 31, slot id 1 to 255."
+abbrev pub idsFit : ℕ → ℕ → Bool
+idsFit slot dci = leb 1 dci && leb dci 31 && leb 1 slot && leb slot 255
+
+-- All of them: what making refuses with 13, and every other call with 1.
+unfoldable pub limitsHold : ℕ → ℕ → ℕ → ℕ → Bool
+limitsHold slots base slot dci = slotsFit slots && baseFits base slots && idsFit slot dci
+
+-- The sizes of the tables: four words a slot, four words a place; "64 request records", of twelve words; "64 packet records for each", of one.
+abbrev pub ringSize : ℕ → ℕ
+ringSize slots = 4 * slots
+
+abbrev pub recordsSize : ℕ
+recordsSize = recordCount * recordWords
+
+abbrev pub packetsSize : ℕ
+packetsSize = recordCount * packetCount
+
+-- "Data length: bulk, interrupt or one packet at most 65,536; control at most 65,535."
+abbrev pub longest : ℕ
+longest = 65536
+
+abbrev pub longestControl : ℕ
+longestControl = 65535

@@ -1,0 +1,95 @@
+-- The next store of a submission: "each changing one slot only". "The last store answers the id and doorbell word (the dci)."
+use Prim.Native.Nat.{ℕ, _+_, _*_, _%_, _^_}
+use mathlib.Core.Bool.{Bool, true, false, not, _&&_}
+use mathlib.Core.List.{List, [], _∷_}
+use lib.Dec.{eqb}
+use lib.ListN.{length}
+use Rattle.base.specs.First.{pick, first}
+use Rattle.ring.specs.Ring.{storeAt, onward, around, linkTrb}
+use Rattle.table.specs.Finished.{clearPlace}
+use Rattle.table.specs.Records.{control, isoch, recordAt}
+use Rattle.table.specs.declared.records.Record.{Record}
+use Rattle.dock.specs.declared.Endpoint.{Endpoint}
+use Rattle.dock.specs.declared.Stored.{Stored}
+use Rattle.dock.specs.declared.Stored.the-variants.{Slot, Last, Refused}
+use Rattle.dock.specs.declared.StoredOne.{StoredOne}
+use Rattle.dock.specs.declared.Work.{Work}
+use Rattle.dock.specs.Limits.{ringSize, packetsSize}
+use Rattle.dock.specs.Fit.{fitsWith, Next, theLink, theTrb, theSetup, none, nextOf, isNone}
+use Rattle.dock.specs.State.{idle, moved}
+use Rattle.dock.specs.Stores.{setupTrb, trbOf, packetSize, nextFrame}
+
+-- Row 1, then 10: "a store .. with none under way".
+unfoldable pub storeTests : Endpoint → ℕ → ℕ → List ℕ → ℕ → List (Bool × ℕ)
+storeTests e ring finished records packets =
+    (not (fitsWith e records && eqb ring (ringSize (e .shape .slots)) && eqb finished (ringSize (e .shape .slots)) && eqb packets packetsSize), 1)
+    ∷ (not (e .work .busy), 10)
+    ∷ []
+
+unfoldable pub storeNo : Endpoint → ℕ → ℕ → List ℕ → ℕ → ℕ
+storeNo e ring finished records packets = first (storeTests e ring finished records packets)
+
+-- The work with so many TRBs stored, and the running address, which an ISO packet moves on by its length, modulo 2^64.
+abbrev pub worked : Work → ℕ → ℕ → Work
+worked w stored address =
+    record { busy = true; number = w .number; stored = stored; address = address; place = w .place; cycle = w .cycle }
+
+abbrev pub runOn : Endpoint → Record → List ℕ → ℕ
+runOn e v packets =
+    pick (eqb (v .kind) isoch) ((e .work .address + packetSize e packets (e .work .stored)) % 2 ^ 64) (e .work .address)
+
+abbrev pub frameOn : Endpoint → Record → ℕ
+frameOn e v = pick (eqb (v .kind) isoch) (nextFrame e) (e .periodic .frame)
+
+-- "A control TD stores its setup with the opposite cycle, the rest as usual, then the setup again with the right one."
+abbrev pub firstCycle : Endpoint → Record → Bool
+firstCycle e v = pick (eqb (v .kind) control && eqb (e .work .stored) 0) (not (e .at .cycle)) (e .at .cycle)
+
+-- The endpoint after a store; "reaching L-1 it adds a second store, the link at L-1 with the old cycle, then place 0 and the cycle toggled".
+unfoldable pub stepped : Next → Endpoint → Record → List ℕ → Endpoint
+stepped theLink e v packets = moved e (around (e .at)) (e .periodic .frame) (worked (e .work) (e .work .stored) (e .work .address))
+stepped theTrb e v packets = moved e (onward (e .at)) (frameOn e v) (worked (e .work) (e .work .stored + 1) (runOn e v packets))
+stepped theSetup e v packets = moved e (e .at) (e .periodic .frame) (worked (e .work) (e .work .stored + 1) (e .work .address))
+stepped none e v packets = e
+
+-- The slot that the store changes,
+unfoldable pub slotStored : Next → Endpoint → ℕ
+slotStored theLink e = e .at .place
+slotStored theTrb e = e .at .place
+slotStored theSetup e = e .work .place
+slotStored none e = 0
+
+-- the ring afterwards,
+unfoldable pub ringStored : Next → Endpoint → Record → List ℕ → List ℕ → List ℕ
+ringStored theLink e v packets ring = storeAt ring (e .at .place) (linkTrb (e .shape .base) false) (e .at .cycle)
+ringStored theTrb e v packets ring = storeAt ring (e .at .place) (trbOf e v packets (e .work .stored)) (firstCycle e v)
+ringStored theSetup e v packets ring = storeAt ring (e .work .place) (setupTrb v) (e .work .cycle)
+ringStored none e v packets ring = ring
+
+-- and the finished table: "a TRB's first store clears it .. The link's store and a setup's second store clear nothing."
+unfoldable pub finishedStored : Next → Endpoint → List ℕ → List ℕ
+finishedStored theLink e finished = finished
+finishedStored theTrb e finished = clearPlace finished (e .at .place)
+finishedStored theSetup e finished = finished
+finishedStored none e finished = finished
+
+-- After the last store nothing is under way.
+unfoldable pub settled : Endpoint → Record → Endpoint
+settled e v = pick (isNone (nextOf e v)) (moved e (e .at) (e .periodic .frame) idle) e
+
+unfoldable pub storedAnswer : Next → Endpoint → Endpoint → Record → Stored
+storedAnswer n before after v =
+    pick (isNone (nextOf after v)) (Last (slotStored n before) (v .id) (before .who .dci)) (Slot (slotStored n before))
+
+unfoldable pub store : Endpoint → List ℕ → List ℕ → List ℕ → List ℕ → StoredOne × List ℕ × List ℕ
+store e ring finished records packets =
+    let no = storeNo e (length ring) (length finished) records (length packets) in
+    let v = recordAt records (e .work .number) in
+    let n = nextOf e v in
+    pick (eqb no 0)
+    (
+      record { answer = storedAnswer n e (stepped n e v packets) v; endpoint = settled (stepped n e v packets) v },
+      ringStored n e v packets ring,
+      finishedStored n e finished,
+    )
+    (record { answer = Refused no; endpoint = e }, ring, finished)
