@@ -1,7 +1,7 @@
 -- Document 01's number for each case of each answer, and the values that go with it.
 use Prim.Native.Nat.{ℕ}
 use mathlib.Core.Bool.{Bool}
-use mathlib.Core.List.{List, [], _∷_}
+use mathlib.Core.List.{List, [], _∷_, _++_}
 use Rattle.base.specs.Fields.{flag}
 use Rattle.trb.specs.Layouts.{listed}
 use Rattle.dock.specs.declared.Outcome.{Outcome}
@@ -52,9 +52,10 @@ reclaimedNumber reclaimed.Mismatch = (9, [])
 reclaimedNumber reclaimed.Nothing = (10, [])
 reclaimedNumber (reclaimed.Refused number) = (number, [])
 
+-- A reset: nothing to do, or the words of two commands.
 abbrev pub resettingNumber : Resetting → Numbered
 resettingNumber resetting.Clear = (0, [])
-resettingNumber (resetting.Commands first second) = (0, listed first)
+resettingNumber (resetting.Commands first second) = (0, listed first ++ listed second)
 resettingNumber (resetting.Refused number) = (number, [])
 
 abbrev pub commandNumber : Command → Numbered
