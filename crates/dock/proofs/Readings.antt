@@ -66,8 +66,7 @@ isoOf n = replicate n 0
 admits : ℕ → Endpoint → Bool × Endpoint
 admits zero e = (true, e)
 admits (suc n) e =
-    let before = admits n e in
-    (
+    let before = admits n e in (
       before .0 && eqb (gets (before .1) (Isoch true 0 0) (isoOf 64)) 0,
       heldWith (before .1) (Isoch true 0 0) (isoOf 64),
     )
@@ -132,6 +131,7 @@ w8 = isBytes (worth 28 192 100) 100 && isBytes (worth 27 192 100) 0 && isRefused
     isBytes : Worth → ℕ → Bool
     isBytes (bytes n) m = eqb n m
     isBytes refused m = false
+
     isRefused : Worth → Bool
     isRefused (bytes n) = false
     isRefused refused = true

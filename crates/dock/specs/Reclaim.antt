@@ -154,8 +154,7 @@ unfoldable pub reclaimControl : Endpoint → List ℕ → List ℕ → Record �
 reclaimControl e finished records v number =
     let setup = stageBy (finishedAt finished (v .place)) e v number in
     let seen = dataSeen e finished v in
-    let recorded = recordedBy seen v in
-    (
+    let recorded = recordedBy seen v in (
       afterStage setup (afterStage (stageBy seen e v number) (statusBy (finishedAt finished (statusPlace e v)) e v number recorded)),
       recordsAfter setup records (setWord records number recordedWord recorded),
     )
@@ -202,8 +201,8 @@ module _ (slots : ℕ) (finished : List ℕ) (v : Record) (number : ℕ) where
   sweep zero k packets = (unfinished, packets)
   sweep (suc n) k packets =
       elim (packetAt packets number k .marked) [
-        true ↦ sweep n (k + 1) packets
-      | false ↦ sweptAt (finishedAt finished (placeOf slots (v .place) k)) k packets (λ l. sweep n (k + 1) l)
+        | true ↦ sweep n (k + 1) packets
+        | false ↦ sweptAt (finishedAt finished (placeOf slots (v .place) k)) k packets (λ l. sweep n (k + 1) l)
       ]
 
 abbrev pub sweptAnswer : Swept → Endpoint → Record → ℕ → List ℕ → ReclaimedOne

@@ -30,8 +30,7 @@ retiredBelow (suc r) occupancy outstanding records =
 unfoldable pub retire : Endpoint → List ℕ → Changed × List ℕ
 retire e records =
     let s = retiredBelow recordCount (e .account .occupancy) (e .account .outstanding) records in
-    pick (eqb (recordNo e records) 0)
-    (
+    pick (eqb (recordNo e records) 0) (
       record {
         answer = Done;
         endpoint = withAccount e (record { next = e .account .next; occupancy = e .account .occupancy; outstanding = s .0 });

@@ -122,8 +122,7 @@ startedRecords e records request lengths =
 unfoldable pub start : Endpoint → List ℕ → List ℕ → Request → List ℕ → Changed × List ℕ × List ℕ
 start e records packets request lengths =
     let no = startNo e records (length packets) request lengths in
-    pick (eqb no 0)
-    (
+    pick (eqb no 0) (
       record { answer = Done; endpoint = startedEndpoint e records request lengths },
       startedRecords e records request lengths,
       writePackets packets (recordTaken e) request lengths,

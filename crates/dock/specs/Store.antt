@@ -86,8 +86,7 @@ store e ring finished records packets =
     let no = storeNo e (length ring) (length finished) records (length packets) in
     let v = recordAt records (e .work .number) in
     let n = nextOf e v in
-    pick (eqb no 0)
-    (
+    pick (eqb no 0) (
       record { answer = storedAnswer n e (stepped n e v packets) v; endpoint = settled (stepped n e v packets) v },
       ringStored n e v packets ring,
       finishedStored n e finished,

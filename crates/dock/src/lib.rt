@@ -95,11 +95,7 @@ pub enum Outcome {
 // Of a store: the slot that changed; after a submission's last store also its id and the doorbell word.
 pub enum Stored {
     Slot(usize),
-    Last {
-        slot: usize,
-        id: u64,
-        bell: u32,
-    },
+    Last { slot: usize, id: u64, bell: u32 },
     Refused(u32),
 }
 

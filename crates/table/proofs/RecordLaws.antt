@@ -1,19 +1,19 @@
 -- A record that is put is read back as it is, every other record as it was, and a word that is set is the only one that changes.
 -- Assumes nothing.
-use Prim.Native.Nat.{ℕ, _+_, _*_, _≤_, _<_}
+use Prim.Native.Nat.{ℕ, _+_, _-_, _*_, _≤_, _<_}
 use mathlib.Core.Bool.{Bool, true, false}
 use mathlib.Core.List.{List}
 use mathlib.Core.Logic.{⊎-elim}
 use mathlib.Core.Path.{_≡_, refl, sym, ap, _∙_}
 use native.Mathlib.Omega.{arith}
-use lib.ListN.{length, getD, length-set}
-use lib.Seq.{getD-set-same, getD-set-other}
+use lib.ListN.{length, getD, take, drop, length-set}
+use lib.Seq.{getD-set-same, getD-set-other, getD-take, getD-drop}
 use Rattle.base.specs.Fields.{flag}
 use Rattle.base.specs.Part.{put}
 use Rattle.base.proofs.Compare.{compared}
 use Rattle.base.proofs.Lent.{put-same, put-before, put-behind}
 use Rattle.ids.specs.Free.{recordWords, idAt}
-use Rattle.table.specs.Records.{wordAt, isSet, recordAt, recordList, setWord}
+use Rattle.table.specs.Records.{wordAt, isSet, recordOf, recordAt, recordList, setWord}
 use Rattle.table.specs.declared.records.Record.{Record}
 
 -- ---- a record by its words
@@ -58,6 +58,19 @@ unfolding recordAt
 by-words l r =
     let start : recordWords * r + 0 ≡ recordWords * r = omega arith in
     rw start
+
+-- The id of a record is its first word, by which the id search goes.
+pub id-is : (l : List ℕ) (r : ℕ) → recordAt l r .id ≡ idAt l r
+unfolding recordAt
+id-is l r = refl
+
+-- The part `l[12 r..12 r + 12]` is record r.
+pub of-part : (l : List ℕ) (r : ℕ) → recordOf (take (recordWords * r + recordWords - recordWords * r) (drop (recordWords * r) l)) ≡ recordAt l r
+of-part l r =
+    let size : recordWords * r + recordWords - recordWords * r ≡ 12 = omega arith in
+    rw size
+    (same-record (λ k. getD (take 12 (drop (recordWords * r) l)) k 0) (wordAt l r) (λ k h. getD-take 12 (drop (recordWords * r) l) k 0 h ∙ getD-drop (recordWords * r) l k 0)
+    ∙ sym (by-words l r))
 
 flag-set : (b : Bool) → isSet (flag b) ≡ b
 flag-set true = refl

@@ -45,7 +45,25 @@ wordAt records r k = getD records (recordWords * r + k) 0
 abbrev pub isSet : ℕ → Bool
 isSet w = not (eqb w 0)
 
--- Any twelve words are a record.
+-- Any twelve words are a record: those of a part,
+abbrev pub recordOf : List ℕ → Record
+recordOf part =
+    record {
+      id = getD part 0 0;
+      kind = getD part 1 0;
+      incoming = isSet (getD part 2 0);
+      state = getD part 3 0;
+      cancelled = isSet (getD part 4 0);
+      address = getD part 5 0;
+      length = getD part 6 0;
+      setup = getD part 7 0;
+      place = getD part 8 0;
+      count = getD part 9 0;
+      given = getD part 10 0;
+      recorded = getD part 11 0;
+    }
+
+-- and those of record r of a table.
 unfoldable pub recordAt : List ℕ → ℕ → Record
 recordAt records r =
     record {

@@ -6,7 +6,7 @@ ghost use lib.ListN.{length, set};
 ghost use Rattle.base.specs.Fields.{flag};
 ghost use Rattle.base.specs.Part.{filled, put};
 ghost use Rattle.ids.specs.Free.{recordWords, recordCount};
-ghost use Rattle.table.specs.Records.{recordAt, recordList, setWord};
+ghost use Rattle.table.specs.Records.{recordOf, recordAt, recordList, setWord};
 use ids::RECORD_WORDS;
 
 // What a request's later stores and its completion need.
@@ -37,25 +37,33 @@ pub const IN_FLIGHT: u64 = 1;
 
 pub const STOPPED: u64 = 2;
 
+// What twelve words say.
+fn record_of(part: &[u64]) -> Record
+    requires { ⌜ length (now part) ≡ recordWords ⌝ }
+    ensures { λ v. ⌜ v ≡ recordOf (now (part .entry)) ⌝ }
+{
+    Record {
+        id: part[0],
+        kind: part[1],
+        incoming: part[2] != 0,
+        state: part[3],
+        cancelled: part[4] != 0,
+        address: part[5],
+        length: part[6],
+        setup: part[7],
+        place: part[8],
+        count: part[9],
+        given: part[10],
+        recorded: part[11],
+    }
+}
+
 pub fn record_at(records: &[u64], r: usize) -> Record
     requires { ⌜ (length (now records) ≡ recordCount * recordWords) × (r < recordCount) ⌝ }
     ensures { λ v. ⌜ v ≡ recordAt (now (records .entry)) r ⌝ }
 {
     let start = RECORD_WORDS * r;
-    Record {
-        id: records[start],
-        kind: records[start + 1],
-        incoming: records[start + 2] != 0,
-        state: records[start + 3],
-        cancelled: records[start + 4] != 0,
-        address: records[start + 5],
-        length: records[start + 6],
-        setup: records[start + 7],
-        place: records[start + 8],
-        count: records[start + 9],
-        given: records[start + 10],
-        recorded: records[start + 11],
-    }
+    record_of(&records[start..start + RECORD_WORDS])
 }
 
 fn bit(b: bool) -> u64

@@ -1,13 +1,13 @@
--- `table::records::record_at` meets its contract: the twelve words. Assumes nothing.
-use Rattle.table.specs.Records.{recordAt}
-use mathlib.Core.Path.{refl}
+-- `table::records::record_at` meets its contract: the part of the table that is the record. Assumes nothing.
+use mathlib.Core.Path.{_∙_}
+use denote.Ref.{now}
+use Rattle.table.proofs.RecordLaws.{of-part}
 use borrow.Author.Needs.{needs}
 use Rattle.table.proofs.records.record_at.Statement.{statement}
 use Rattle.table.proofs.records.record_at.Tie as tie
 
 returns : tie.Need-returns
-unfolding recordAt
-returns c = refl
+returns c = let a = c .before .before .before .args in c .record-of .ensures ∙ of-part (now (a .records)) (a .r)
 
 pub record-at-spec : {M : Type 1} → statement M
 record-at-spec =
@@ -19,34 +19,5 @@ record-at-spec =
     (λ c. search needs)
     (λ c. search needs)
     (λ c. search needs)
-    (λ c. search needs)
-    (λ c. search needs)
-    (λ c. search needs)
-    (λ c. search needs)
-    (λ c. search needs)
-    (λ c. search needs)
-    (λ c. search needs)
-    (λ c. search needs)
-    (λ c. search needs)
-    (λ c. search needs)
-    (λ c. search needs)
-    (λ c. search needs)
-    (λ c. search needs)
-    (λ c. search needs)
-    (λ c. search needs)
-    (λ c. search needs)
-    (λ c. search needs)
-    (λ c. search needs)
-    (λ c. search needs)
-    (λ c. search needs)
-    (λ c. search needs)
-    (λ c. search needs)
-    (λ c. search needs)
-    (λ c. search needs)
-    (λ c. search needs)
-    (λ c. search needs)
-    (λ c. search needs)
-    (λ c. search needs)
-    (λ c. search needs)
-    (λ c. search needs)
+    (λ c κs. search needs)
     returns)
