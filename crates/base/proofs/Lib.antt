@@ -4,5 +4,6 @@ pub mod Chosen
 pub mod Compare
 pub mod Decide
 pub mod Lent
+pub mod Pasted
 pub mod ReadBack
 pub mod Unique

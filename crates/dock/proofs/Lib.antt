@@ -1,1 +1,23 @@
+-- The laws of the definitions, the states that are reached from making, and the readings from the bench.
+pub mod AskedLaws
+pub mod BooksLaws
+pub mod CompletionLaws
+pub mod FinishLaws
+pub mod FitLaws
+pub mod InvariantLaws
+pub mod LengthLaws
+pub mod NextLaws
+pub mod NothingLaws
+pub mod OnceLaws
+pub mod Reached
 pub mod Readings
+pub mod ReclaimLaws
+pub mod RefusalLaws
+pub mod RetireLaws
+pub mod RowLaws
+pub mod StartLaws
+pub mod StartedLaws
+pub mod StepLaws
+pub mod StoreLaws
+pub mod SubmitLaws
+pub mod TestLaws

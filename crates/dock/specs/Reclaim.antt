@@ -1,5 +1,5 @@
 -- Reclaiming a request by its id. Document 01: rows 1, 12, 10 and 7 to 9, and "What a packet is worth".
-use Prim.Native.Nat.{ℕ, zero, suc, _+_, _-_, _*_, _%_}
+use Prim.Native.Nat.{ℕ, zero, suc, _+_, _-_, _*_, _%_, _^_}
 use mathlib.Core.Bool.{Bool, true, false, not, _&&_, _||_}
 use mathlib.Core.List.{List, [], _∷_}
 use lib.Dec.{eqb, ltb, leb}
@@ -127,10 +127,11 @@ statusBy place.Nothing e v number recorded = nothing e
 statusBy (place.Event w) e v number recorded =
     complete e v number (codeOf w) (not (accepted (codeOf w))) (recordedLength v recorded)
 
--- "A data event records length minus remaining, not below 0."
+-- "A data event records length minus remaining, not below 0." One above a length of 2^64-1 is no word: modulo 2^64 it is 0, which counts as the
+-- requested length, the same.
 abbrev pub recordedBy : Finished → Record → ℕ
 recordedBy place.Nothing v = v .recorded
-recordedBy (place.Event w) v = movedBytes (v .length) (remainingOf w) + 1
+recordedBy (place.Event w) v = (movedBytes (v .length) (remainingOf w) + 1) % 2 ^ 64
 
 -- The three places: data has one where the length is above 0.
 abbrev pub dataPlace : Endpoint → Record → ℕ

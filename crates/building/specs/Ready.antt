@@ -1,0 +1,20 @@
+-- What a store needs of its tests, as facts on numbers.
+use Prim.Native.Nat.{ℕ, _+_, _≤_, _<_}
+use mathlib.Core.List.{List}
+use mathlib.Core.Path.{_≡_}
+use lib.ListN.{length}
+use Rattle.ids.specs.Free.{recordCount}
+use Rattle.table.specs.Packets.{packetCount}
+use Rattle.dock.specs.Limits.{ringSize, recordsSize, packetsSize}
+use Rattle.dock.specs.declared.Endpoint.{Endpoint}
+
+pub record Ready (e : Endpoint) (ring finished records packets : ℕ) : Type 0 where
+  pub slots : ring ≡ ringSize (e .shape .slots)
+  pub places : finished ≡ ringSize (e .shape .slots)
+  pub table : records ≡ recordsSize
+  pub words : packets ≡ packetsSize
+  pub most : e .shape .slots ≤ 4096
+  pub here : e .at .place + 1 ≤ e .shape .slots
+  pub setup : e .work .place + 1 < e .shape .slots
+  pub number : e .work .number < recordCount
+  pub stored : e .work .stored ≤ packetCount

@@ -1,0 +1,2 @@
+-- What the shared tests say, as facts on numbers.
+pub mod Laws

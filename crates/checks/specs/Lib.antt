@@ -1,0 +1,2 @@
+-- The definitions that only the contracts of `checks` cite.
+pub mod Step

@@ -1,0 +1,88 @@
+// The completion of requests: an event is handed over, a request is reclaimed by its id, or cancelled. Document 01, module 5 and row 11.
+//
+// An event goes to the place of the finished table that is its slot's, and stays there. A reclaim looks its request's places up: one event tells
+// a bulk or an interrupt request, up to three a control request, and one for each packet an isochronous one, whose packets are marked and
+// credited in the lent table. When a request is told, its record is freed and its TRBs leave flight.
+//
+// Each call takes any endpoint, tables and numbers: it tests what it needs, and what it answers and leaves is its definition in `dock`.
+ghost use mathlib.Core.Path.{_≡_};
+ghost use Prim.Native.Nat.{_*_};
+ghost use lib.ListN.{length};
+ghost use Rattle.ids.specs.Free.{recordCount, recordWords};
+ghost use Rattle.ids.specs.Lookup.{findIn};
+ghost use Rattle.dock.specs.Cancel.{marked, cancel};
+ghost use Rattle.dock.specs.HandOver.{handOver};
+ghost use Rattle.dock.specs.Reclaim.{reclaim};
+use dock::Endpoint;
+use dock::Outcome;
+use dock::Reclaimed;
+use dock::ReclaimedOne;
+use dock::Taken;
+use ids::Lookup;
+use table::records::CANCELLED;
+
+mod bulk;
+mod control;
+mod reclaim;
+mod refuse;
+
+// An event is handed over: its place is filled.
+pub fn hand_over(e: Endpoint, finished: &mut [u32], event: trb::Words) -> Taken
+    ensures { λ r. ⌜ (r, now (finished .exit)) ≡ handOver e (now (finished .entry)) event ⌝ }
+{
+    let no = refuse::hand_over_no(e, finished.len(), event);
+    if no != 0 {
+        return Taken::Refused(no);
+    }
+    let slot = refuse::place_for(e, event);
+    table::finished::set_finished(finished, slot, event);
+    Taken::Place(slot)
+}
+
+// A request is reclaimed by its id.
+pub fn reclaim_request(
+    e: Endpoint,
+    finished: &[u32],
+    records: &mut [u64],
+    packets: &mut [u64],
+    id: u64,
+) -> ReclaimedOne
+    ensures { λ r. ⌜ (r, now (records .exit), now (packets .exit)) ≡ reclaim e (now (finished .entry)) (now (records .entry)) (now (packets .entry)) id ⌝ }
+{
+    let no = refuse::reclaim_no(e, finished.len(), records, packets.len(), id);
+    if no != 0 {
+        return ReclaimedOne {
+            answer: Reclaimed::Refused(no),
+            endpoint: e,
+        };
+    }
+    let found = ids::find_id(records, e.account.occupancy, id);
+    match found {
+        Lookup::Nothing => worth::complete::unfinished(e),
+        Lookup::At(r) => reclaim::reclaim_at(e, finished, records, packets, r),
+    }
+}
+
+// The record with the id is marked as cancelled.
+fn mark(records: &mut [u64], occupancy: u64, id: u64)
+    requires { ⌜ length (now records) ≡ recordCount * recordWords ⌝ }
+    ensures { λ _. ⌜ now (records .exit) ≡ marked (now (records .entry)) (findIn (now (records .entry)) occupancy id) ⌝ }
+{
+    let found = ids::find_id(records, occupancy, id);
+    match found {
+        Lookup::Nothing => {}
+        Lookup::At(r) => table::records::set_word(records, r, CANCELLED, 1),
+    }
+}
+
+// A request is cancelled: its completion will answer 7.
+pub fn cancel_request(e: Endpoint, records: &mut [u64], id: u64) -> Outcome
+    ensures { λ r. ⌜ (r, now (records .exit)) ≡ cancel e (now (records .entry)) id ⌝ }
+{
+    let no = refuse::cancel_no(e, records, id);
+    if no != 0 {
+        return Outcome::Refused(no);
+    }
+    mark(records, e.account.occupancy, id);
+    Outcome::Done
+}

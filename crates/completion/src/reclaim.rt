@@ -1,0 +1,78 @@
+// The reclaim of a held record: a stopped one is given back, one in flight is looked at by its kind.
+ghost use mathlib.Core.Path.{_≡_};
+ghost use mathlib.Core.Bool.{false};
+ghost use Prim.Native.Nat.{_*_, _≤_, _<_};
+ghost use lib.ListN.{length};
+ghost use Rattle.ids.specs.Free.{recordCount, recordWords};
+ghost use Rattle.table.specs.Packets.{packetCount};
+ghost use Rattle.table.specs.Records.{isoch, recordAt};
+ghost use Rattle.dock.specs.Reclaim.{reclaimFlying};
+ghost use Rattle.walk.specs.Flying.{Flying};
+ghost use Rattle.completion.specs.Sizes.{Sizes};
+ghost use Rattle.completion.specs.Parts.{misplaced, reclaimAt};
+use crate::bulk::reclaim_bulk;
+use crate::control::reclaim_control;
+use checks::BULK;
+use checks::CONTROL;
+use checks::INTERRUPT;
+use checks::ISOCH;
+use dock::Endpoint;
+use dock::Reclaimed;
+use dock::ReclaimedOne;
+use table::records::IN_FLIGHT;
+use table::records::Record;
+use table::records::STOPPED;
+use walk::reclaim_iso;
+use worth::complete::left;
+use worth::complete::unfinished;
+
+// A record in flight, by its kind; a kind that is none never finishes.
+fn reclaim_flying(
+    e: Endpoint,
+    finished: &[u32],
+    records: &mut [u64],
+    packets: &mut [u64],
+    v: Record,
+    number: usize,
+) -> ReclaimedOne
+    requires { ⌜ (Flying (e .shape .slots) (length (now finished)) v number) × (length (now records) ≡ recordCount * recordWords) × (length (now packets) ≡ recordCount * packetCount) × (v .kind ≡ isoch → v .count ≤ packetCount) ⌝ }
+    ensures { λ r. ⌜ (r, now (records .exit), now (packets .exit)) ≡ reclaimFlying e (now (finished .entry)) (now (records .entry)) (now (packets .entry)) v number ⌝ }
+{
+    if v.kind == CONTROL {
+        return reclaim_control(e, finished, records, v, number);
+    }
+    if v.kind == ISOCH {
+        return reclaim_iso(e, finished, packets, v, number);
+    }
+    if v.kind == BULK {
+        return reclaim_bulk(e, finished, v, number);
+    }
+    if v.kind == INTERRUPT {
+        return reclaim_bulk(e, finished, v, number);
+    }
+    unfinished(e)
+}
+
+// Record r, by its state. A stopped one's TRBs left flight when it was retired.
+pub fn reclaim_at(
+    e: Endpoint,
+    finished: &[u32],
+    records: &mut [u64],
+    packets: &mut [u64],
+    r: usize,
+) -> ReclaimedOne
+    requires { ⌜ (Sizes (e .shape .slots) (length (now finished)) (length (now records)) (length (now packets))) × (r < recordCount) × (misplaced (e .shape .slots) (recordAt (now records) r) ≡ false) ⌝ }
+    ensures { λ o. ⌜ (o, now (records .exit), now (packets .exit)) ≡ reclaimAt r e (now (finished .entry)) (now (records .entry)) (now (packets .entry)) ⌝ }
+{
+    let v = table::records::record_at(records, r);
+    if v.state == STOPPED {
+        return ReclaimedOne {
+            answer: Reclaimed::Cancelled,
+            endpoint: left(e, r, 0, false),
+        };
+    }
+    if v.state == IN_FLIGHT {
+        return reclaim_flying(e, finished, records, packets, v, r);
+    }
+    unfinished(e)
+}

@@ -1,0 +1,166 @@
+-- A start that is admitted takes an id that no held record has, the lowest record that is free, and as many TRBs as the request needs, at most L-2 in
+-- all; it writes that record, changes no other, and leaves position, shape, identity, settings and flags. Assumes nothing.
+use Prim.Native.Nat.{ℕ, _+_, _-_, _*_, _^_, _<_, _≤_}
+use mathlib.Core.Bool.{false, _&&_, false≢true}
+use mathlib.Core.List.{List}
+use mathlib.Core.Logic.{⊎-elim}
+use mathlib.Core.Path.{_≡_, refl, sym}
+use native.Mathlib.Omega.{arith}
+use borrow.Author.Tests.{not-false}
+use lib.Dec.{eqb}
+use lib.ListN.{length}
+use Rattle.base.proofs.Compare.{lt-or-le}
+use Rattle.base.proofs.Decide.{Decides, by-eqb, both}
+use Rattle.base.proofs.Lent.{put-length}
+use Rattle.mask.specs.Bit.{bit, BitIs}
+use Rattle.mask.specs.Clear.{LowestClear, Answers}
+use Rattle.mask.specs.Compute.{lowestClear}
+use Rattle.mask.specs.declared.Found.{Found}
+use Rattle.mask.specs.declared.Found.the-variants.{At, Full}
+use Rattle.mask.proofs.ComputeLaws.{lowest-answers, set-is}
+use Rattle.ids.specs.Free.{recordCount, recordWords, isHeld, idAt}
+use Rattle.ids.specs.Order.{afterId}
+use Rattle.ids.proofs.SearchLaws.{answer-free, answer-other}
+use Rattle.table.specs.Records.{recordAt, recordList}
+use Rattle.table.proofs.RecordLaws.{record-put, record-other}
+use Rattle.dock.specs.declared.Endpoint.{Endpoint}
+use Rattle.dock.specs.declared.Request.{Request}
+use Rattle.dock.specs.Fit.{fitsWith}
+use Rattle.dock.specs.Limits.{packetsSize}
+use Rattle.dock.specs.Requests.{addressOf, lengthOf, required, recordFor}
+use Rattle.dock.specs.Start.{startTests, startNo, crowded, tooLong, isFull, beyond, numberFrom, recordTaken, idTaken, charged, begun, startedEndpoint, startedRecords}
+use Rattle.dock.proofs.RefusalLaws.{start-exact}
+use Rattle.dock.proofs.TestLaws.{FitsWith, by-fits-with, by-crowded}
+
+-- ---- what an admitted start may count on
+
+lowest-of : (m : ℕ) (f : Found) → Answers 64 (bit m) f → isFull f ≡ false → LowestClear 64 (bit m) (numberFrom f)
+lowest-of m (At i) a free = a
+lowest-of m Full a free = absurd (false≢true (sym free))
+
+module _ (e : Endpoint) (records packets : List ℕ) (request : Request) (lengths : List ℕ) where
+  pub record Starting : Type 0 where
+    pub fits : FitsWith e records
+    pub packets-size : length packets ≡ packetsSize
+    pub resting : e .work .busy ≡ false
+    pub steady : e .flags .reset ≡ false
+    pub room : e .account .outstanding + required request lengths ≤ e .shape .slots - 2
+    pub short : tooLong request lengths ≡ false
+    pub free : LowestClear 64 (bit (e .account .occupancy)) (recordTaken e)
+    pub reach : beyond (e .who .mask) (addressOf request) (lengthOf request) ≡ false
+
+  by-tables : Decides (fitsWith e records && eqb (length packets) packetsSize) (FitsWith e records × (length packets ≡ packetsSize))
+  by-tables = both (by-fits-with e records) (by-eqb (length packets) packetsSize)
+
+  pub start-admitted : startNo e records (length packets) request lengths ≡ 0 → Starting
+  unfolding startTests recordTaken
+  start-admitted passed =
+      let tests = start-exact e records packets request lengths .passed passed in
+      let k = by-tables .so (not-false _ (tests 0 (omega arith))) in
+      let more = required request lengths in
+      let crowd : crowded (e .shape .slots) (e .account .outstanding) more ≡ false = tests 3 (omega arith) in
+      record {
+        fits = k .0;
+        packets-size = k .1;
+        resting = tests 1 (omega arith);
+        steady = tests 2 (omega arith);
+        room =
+            ⊎-elim
+            (λ (h : e .shape .slots - 2 < e .account .outstanding + more). absurd (by-crowded (e .shape .slots) (e .account .outstanding) more .not-so crowd h))
+            (λ (h : e .account .outstanding + more ≤ e .shape .slots - 2). h)
+            (lt-or-le (e .shape .slots - 2) (e .account .outstanding + more));
+        short = tests 4 (omega arith);
+        free = lowest-of (e .account .occupancy) (lowestClear (e .account .occupancy)) (lowest-answers (e .account .occupancy)) (tests 5 (omega arith));
+        reach = tests 6 (omega arith);
+      }
+
+-- ---- what is taken
+
+module _ (e : Endpoint) (records packets : List ℕ) (request : Request) (lengths : List ℕ) (passed : startNo e records (length packets) request lengths ≡ 0) where
+  starting : Starting e records packets request lengths
+  starting = start-admitted e records packets request lengths passed
+
+  next-above : 0 < e .account .next
+  next-above = let n = starting .fits .endpoint .next in omega arith
+
+  -- The id is one that no held record has.
+  pub id-free : e .account .next < 2 ^ 64 → isHeld recordCount (bit (e .account .occupancy)) (idAt records) (idTaken e records) ≡ false
+  unfolding idTaken
+  id-free small = answer-free recordCount (bit (e .account .occupancy)) (idAt records) (e .account .next) (omega arith) next-above small
+
+  pub id-other : e .account .next < 2 ^ 64 → (r : ℕ) → r < recordCount → bit (e .account .occupancy) r ≡ 1 → idTaken e records ≡ recordAt records r .id → ⊥
+  unfolding idTaken recordAt
+  id-other small r l held q =
+      answer-other recordCount (bit (e .account .occupancy)) (idAt records) (e .account .next) (omega arith) next-above small r l held q
+
+  -- The record is the lowest that is free.
+  pub record-below : recordTaken e < recordCount
+  record-below = starting .free .within
+
+  pub record-free : bit (e .account .occupancy) (recordTaken e) ≡ 0
+  record-free = starting .free .clear
+
+  pub record-lowest : (r : ℕ) → r < recordTaken e → bit (e .account .occupancy) r ≡ 1
+  record-lowest = starting .free .lower
+
+  -- Afterwards it is held, and every other record as it was.
+  pub record-taken : BitIs (bit (e .account .occupancy)) (recordTaken e) 1 (bit (startedEndpoint e records request lengths .account .occupancy))
+  unfolding startedEndpoint charged
+  record-taken = set-is (e .account .occupancy) (recordTaken e)
+
+  -- The TRBs outstanding: as many more as the request needs, and at most L-2.
+  pub outstanding-after : startedEndpoint e records request lengths .account .outstanding ≡ e .account .outstanding + required request lengths
+  unfolding startedEndpoint charged
+  outstanding-after = refl
+
+  pub outstanding-most : startedEndpoint e records request lengths .account .outstanding ≤ e .shape .slots - 2
+  outstanding-most = omega (arith, outstanding-after, starting .room)
+
+-- The next search starts after the id.
+module _ (e : Endpoint) (records : List ℕ) (request : Request) (lengths : List ℕ) where
+  pub next-after : startedEndpoint e records request lengths .account .next ≡ afterId (idTaken e records)
+  unfolding startedEndpoint charged
+  next-after = refl
+
+  -- The account is charged, whatever the ring has in it.
+  pub account-charged : startedEndpoint e records request lengths .account
+      ≡ charged (e .account) (idTaken e records) (recordTaken e) (required request lengths)
+  unfolding startedEndpoint
+  account-charged = refl
+
+  -- A submission is under way from the position on, with none of its TRBs stored.
+  pub work-begun : startedEndpoint e records request lengths .work ≡ begun e (recordTaken e) request
+  unfolding startedEndpoint
+  work-begun = refl
+
+  -- Position, shape, identity, periodic settings and flags are as they were.
+  pub start-keeps : (startedEndpoint e records request lengths .at ≡ e .at)
+      × (startedEndpoint e records request lengths .shape ≡ e .shape)
+      × (startedEndpoint e records request lengths .who ≡ e .who)
+      × (startedEndpoint e records request lengths .periodic ≡ e .periodic)
+      × (startedEndpoint e records request lengths .flags ≡ e .flags)
+  unfolding startedEndpoint
+  start-keeps = (refl, refl, refl, refl, refl)
+
+-- ---- the records
+
+module _ (e : Endpoint) (records packets : List ℕ) (request : Request) (lengths : List ℕ) (passed : startNo e records (length packets) request lengths ≡ 0) where
+  record-room : recordWords * recordTaken e + recordWords ≤ length records
+  record-room =
+      let size = starting e records packets request lengths passed .fits .size in
+      omega (arith, record-below e records packets request lengths passed)
+
+  -- The record taken reads as the request's,
+  pub record-written : recordAt (startedRecords e records request lengths) (recordTaken e) ≡ recordFor request lengths (idTaken e records) (e .at .place)
+  unfolding startedRecords
+  record-written = record-put records (recordTaken e) (recordFor request lengths (idTaken e records) (e .at .place)) record-room
+
+  -- every other as it was,
+  pub records-kept : (r : ℕ) → (r ≡ recordTaken e → ⊥) → recordAt (startedRecords e records request lengths) r ≡ recordAt records r
+  unfolding startedRecords
+  records-kept r differs = record-other records (recordTaken e) (recordFor request lengths (idTaken e records) (e .at .place)) record-room r differs
+
+  -- and the table keeps its length.
+  pub records-length : length (startedRecords e records request lengths) ≡ length records
+  unfolding startedRecords
+  records-length = put-length recordWords records (recordTaken e) (recordList (recordFor request lengths (idTaken e records) (e .at .place))) refl record-room

@@ -1,0 +1,90 @@
+-- After a start that is admitted its stores may follow: the record's TRBs are as many as the request takes, and the next store is a TRB. Assumes nothing.
+use Prim.Native.Nat.{ℕ, _+_, _-_, _^_, _<_}
+use mathlib.Core.Bool.{Bool, true, false, false≢true}
+use mathlib.Core.List.{List}
+use mathlib.Core.Logic.{inl, inr, ⊎-elim}
+use mathlib.Core.Path.{_≡_, refl, sym, ap, _∙_}
+use native.Mathlib.Omega.{arith}
+use lib.Dec.{eqb}
+use lib.ListN.{length}
+use Rattle.base.specs.First.{pick}
+use Rattle.base.proofs.Compare.{same-or-not}
+use Rattle.ids.specs.Order.{afterId}
+use Rattle.ids.proofs.AnyLaws.{after-last, after-more}
+use Rattle.table.specs.Records.{recordAt}
+use Rattle.table.specs.declared.records.Record.{Record}
+use Rattle.dock.specs.declared.Endpoint.{Endpoint}
+use Rattle.dock.specs.declared.Request.{Request}
+use Rattle.dock.specs.declared.Request.the-variants.{Control, Bulk, Interrupt, Isoch}
+use Rattle.dock.specs.Fit.{theTrb, nextOf, isNone}
+use Rattle.dock.specs.Limits.{ringSize}
+use Rattle.dock.specs.Requests.{required, recordFor}
+use Rattle.dock.specs.Start.{startNo, tooLong, recordTaken, idTaken, charged, writePackets, startedEndpoint, startedRecords}
+use Rattle.dock.specs.Stores.{trbCount}
+use Rattle.dock.proofs.NextLaws.{is-next, Storing}
+use Rattle.dock.proofs.AskedLaws.{few-packets, written-length}
+use Rattle.dock.proofs.StartLaws.{Starting, start-admitted, record-below, record-taken, record-written, records-length}
+
+-- A record that is kept of an admitted request has as many TRBs as the request takes, and at least one.
+pub count-is : (request : Request) (lengths : List ℕ) (id place : ℕ) → tooLong request lengths ≡ false
+    → trbCount (recordFor request lengths id place) ≡ required request lengths
+unfolding trbCount
+count-is (Control kind request value index address size) lengths id place short = refl
+count-is (Bulk incoming address size) lengths id place short = refl
+count-is (Interrupt incoming address size) lengths id place short = refl
+count-is (Isoch incoming address size) lengths id place short = omega (arith, few-packets incoming address size lengths short)
+
+two-or-three : (b : Bool) → 0 < pick b 2 3
+two-or-three true = omega arith
+two-or-three false = omega arith
+
+pub required-some : (request : Request) (lengths : List ℕ) → 0 < required request lengths
+required-some (Control kind request value index address size) lengths = two-or-three (eqb size 0)
+required-some (Bulk incoming address size) lengths = omega arith
+required-some (Interrupt incoming address size) lengths = omega arith
+required-some (Isoch incoming address size) lengths = omega arith
+
+after-some : (x : ℕ) → afterId x ≡ 0 → ⊥
+after-some x q = ⊎-elim (λ (h : x ≡ 2 ^ 64 - 1). omega (arith, after-last x h)) (λ (h : x ≡ 2 ^ 64 - 1 → ⊥). omega (arith, after-more x h)) (same-or-not x (2 ^ 64 - 1))
+
+module _ (e : Endpoint) (ring finished records packets : List ℕ) (request : Request) (lengths : List ℕ)
+    (passed : startNo e records (length packets) request lengths ≡ 0)
+    (ring-size : length ring ≡ ringSize (e .shape .slots)) (finished-size : length finished ≡ ringSize (e .shape .slots)) where
+  s : Starting e records packets request lengths
+  s = start-admitted e records packets request lengths passed
+
+  -- With none under way the place is at most L-2.
+  pub place-low : e .at .place + 1 < e .shape .slots
+  place-low =
+      ⊎-elim (λ (h : e .at .place + 1 < e .shape .slots). h) (λ h. absurd (false≢true (sym (s .resting) ∙ h .0 .1))) (s .fits .endpoint .place)
+
+  pub started-count : trbCount (recordAt (startedRecords e records request lengths) (recordTaken e)) ≡ required request lengths
+  started-count =
+      ap trbCount (record-written e records packets request lengths passed) ∙ count-is request lengths (idTaken e records) (e .at .place) (s .short)
+
+  -- A store may follow the start: a TRB.
+  pub started-next : nextOf (startedEndpoint e records request lengths) (recordAt (startedRecords e records request lengths) (recordTaken e)) ≡ theTrb
+  unfolding startedEndpoint
+  started-next =
+      is-next (startedEndpoint e records request lengths) (recordAt (startedRecords e records request lengths) (recordTaken e)) theTrb
+      (λ q. omega (arith, place-low), omega (arith, started-count, required-some request lengths))
+
+  pub started-storing : Storing (startedEndpoint e records request lengths) ring finished (startedRecords e records request lengths) (writePackets packets (recordTaken e) request lengths)
+  unfolding startedEndpoint charged
+  started-storing = record {
+    fits = record { limits = s .fits .endpoint .limits; place = inl place-low; first = inr place-low; next = after-some (idTaken e records) };
+    records-size = records-length e records packets request lengths passed ∙ s .fits .size;
+    ring-size = ring-size;
+    finished-size = finished-size;
+    packets-size =
+        written-length packets (recordTaken e) lengths (s .packets-size) (record-below e records packets request lengths passed) request (s .short)
+        ∙ s .packets-size;
+    busy = refl;
+    course = record {
+      number = record-below e records packets request lengths passed;
+      held = record-taken e records packets request lengths passed .here;
+      flying = ap (λ (v : Record). v .state) (record-written e records packets request lengths passed);
+      counted = omega arith;
+      more = ap isNone started-next;
+    };
+  }

@@ -1,0 +1,259 @@
+-- What the tests of the calls decide, as facts on numbers: the limits, the places, the rows of a submission's refusals and a store number past its
+-- request's stores. Assumes nothing.
+use Prim.Native.Nat.{ℕ, zero, suc, _+_, _-_, _*_, _%_, _^_, _<_, _≤_}
+use mathlib.Core.Bool.{Bool, true, false, not, _&&_, false≢true}
+use mathlib.Core.List.{List, [], _∷_}
+use mathlib.Core.Logic.{_⊎_, inl, inr}
+use mathlib.Core.Path.{_≡_, refl, sym}
+use native.Mathlib.Omega.{arith}
+use lib.Dec.{ltb, leb}
+use lib.ListN.{length, getD}
+use Rattle.base.proofs.Decide.{Decides, by-leb, by-ltb, by-eqb, by-true, by-false, both, either, negated, reworded}
+use Rattle.mask.specs.Bit.{bit}
+use Rattle.mask.specs.Clear.{Answers}
+use Rattle.mask.specs.Compute.{lowestClear}
+use Rattle.mask.specs.declared.Found.{Found}
+use Rattle.mask.specs.declared.Found.the-variants.{At, Full}
+use Rattle.mask.proofs.ComputeLaws.{lowest-answers}
+use Rattle.trb.specs.Event.{eventOf}
+use Rattle.trb.specs.declared.Words.{Words}
+use Rattle.ring.specs.Ring.{slotOf}
+use Rattle.ring.specs.declared.Slot.{Slot}
+use Rattle.ring.specs.declared.Slot.the-variants as slot
+use Rattle.ids.specs.Free.{recordCount}
+use Rattle.table.specs.Packets.{packetCount}
+use Rattle.table.specs.Records.{inFlight, recordAt}
+use Rattle.dock.specs.declared.Endpoint.{Endpoint}
+use Rattle.dock.specs.declared.Request.the-variants.{Control, Bulk, Interrupt, Isoch}
+use Rattle.dock.specs.Fit.{fits, placesFit, fitsWith, strays, flies, nextOf, isNone}
+use Rattle.dock.specs.HandOver.{isOutside, slotFor, foreign}
+use Rattle.dock.specs.Limits.{limitsHold, recordsSize, longest, longestControl}
+use Rattle.dock.specs.Make.{sized}
+use Rattle.dock.specs.Start.{crowded, sumOf, someOver, tooLong, isFull, beyond}
+use Rattle.dock.specs.Stores.{trbCount}
+
+-- ---- what a dock may hold
+
+-- "Slots L: 3 to 4,096. Base: a multiple of 4,096, base + 16L at most 2^64. dci 1 to 31, slot id 1 to 255."
+pub record Limits (slots base slot dci : ℕ) : Type 0 where
+  pub slots-least : 3 ≤ slots
+  pub slots-most : slots ≤ 4096
+  pub base-aligned : base % 4096 ≡ 0
+  pub base-room : base + 16 * slots ≤ 2 ^ 64
+  pub dci-least : 1 ≤ dci
+  pub dci-most : dci ≤ 31
+  pub slot-least : 1 ≤ slot
+  pub slot-most : slot ≤ 255
+
+pub by-limits : (slots base slot dci : ℕ) → Decides (limitsHold slots base slot dci) (Limits slots base slot dci)
+unfolding limitsHold
+by-limits slots base slot dci =
+    reworded
+    (λ k. record {
+      slots-least = k .0 .0 .0;
+      slots-most = k .0 .0 .1;
+      base-aligned = k .0 .1 .0;
+      base-room = k .0 .1 .1;
+      dci-least = k .1 .0 .0 .0;
+      dci-most = k .1 .0 .0 .1;
+      slot-least = k .1 .0 .1;
+      slot-most = k .1 .1;
+    })
+    (λ k. (
+      ((k .slots-least, k .slots-most), (k .base-aligned, k .base-room)),
+      (((k .dci-least, k .dci-most), k .slot-least), k .slot-most),
+    ))
+    (both
+    (both (both (by-leb 3 slots) (by-leb slots 4096)) (both (by-eqb (base % 4096) 0) (by-leb (base + 16 * slots) (2 ^ 64))))
+    (both (both (both (by-leb 1 dci) (by-leb dci 31)) (by-leb 1 slot)) (by-leb slot 255)))
+
+-- The tables have their sizes: four words a slot, four words a place, 64 records of twelve words, 64 packets for each.
+pub record Sized (slots ring finished records packets : ℕ) : Type 0 where
+  pub ring-size : ring ≡ 4 * slots
+  pub finished-size : finished ≡ 4 * slots
+  pub records-size : records ≡ 768
+  pub packets-size : packets ≡ 4096
+
+pub by-sized : (slots ring finished records packets : ℕ) → Decides (sized slots ring finished records packets) (Sized slots ring finished records packets)
+unfolding sized
+by-sized slots ring finished records packets =
+    reworded
+    (λ k. record { ring-size = k .0 .0 .0; finished-size = k .0 .0 .1; records-size = k .0 .1; packets-size = k .1 })
+    (λ k. (((k .ring-size, k .finished-size), k .records-size), k .packets-size))
+    (both (both (both (by-eqb ring (4 * slots)) (by-eqb finished (4 * slots))) (by-eqb records 768)) (by-eqb packets 4096))
+
+-- ---- row 1
+
+module _ (e : Endpoint) where
+  -- The producer's place is at most L-2, or L-1 within a submission of which a TRB is stored.
+  abbrev pub PlaceFits : Type 0
+  PlaceFits =
+      (e .at .place + 1 < e .shape .slots)
+      ⊎ (((e .at .place + 1 ≡ e .shape .slots) × (e .work .busy ≡ true)) × (0 < e .work .stored))
+
+  -- The first place of a submission under way is at most L-2.
+  abbrev pub FirstFits : Type 0
+  FirstFits = (e .work .busy ≡ false) ⊎ (e .work .place + 1 < e .shape .slots)
+
+  by-places : Decides (placesFit e) (PlaceFits × FirstFits)
+  unfolding placesFit
+  by-places =
+      both
+      (either (by-ltb (e .at .place + 1) (e .shape .slots)) (both (both (by-eqb (e .at .place + 1) (e .shape .slots)) (by-true (e .work .busy))) (by-ltb 0 (e .work .stored))))
+      (either (by-false (e .work .busy)) (by-ltb (e .work .place + 1) (e .shape .slots)))
+
+  -- "L, base, dci or slot id outside the above, place above L-2 .., next id 0": none of it.
+  pub record Fits : Type 0 where
+    pub limits : Limits (e .shape .slots) (e .shape .base) (e .who .slot) (e .who .dci)
+    pub place : PlaceFits
+    pub first : FirstFits
+    pub next : e .account .next ≡ 0 → ⊥
+
+  pub by-fits : Decides (fits e) Fits
+  unfolding fits
+  by-fits =
+      reworded
+      (λ k. record { limits = k .0 .0; place = k .0 .1 .0; first = k .0 .1 .1; next = k .1 })
+      (λ k. ((k .limits, (k .place, k .first)), k .next))
+      (both (both (by-limits (e .shape .slots) (e .shape .base) (e .who .slot) (e .who .dci)) by-places) (negated (by-eqb (e .account .next) 0)))
+
+held-to : (a b : Bool) → (a && not b) ≡ false → a ≡ true → b ≡ true
+held-to true true s t = refl
+held-to true false s t = sym s
+held-to false b s t = absurd (false≢true t)
+
+-- The submission under way has a record that is held and in flight, and a store that is left.
+pub record OnCourse (e : Endpoint) (records : List ℕ) : Type 0 where
+  pub number : e .work .number < recordCount
+  pub held : bit (e .account .occupancy) (e .work .number) ≡ 1
+  pub flying : recordAt records (e .work .number) .state ≡ inFlight
+  pub counted : e .work .stored ≤ trbCount (recordAt records (e .work .number))
+  pub more : isNone (nextOf e (recordAt records (e .work .number))) ≡ false
+
+module _ (e : Endpoint) (records : List ℕ) where
+  abbrev onCourse : Bool
+  onCourse =
+      ltb (e .work .number) recordCount
+      && flies records (e .account .occupancy) (e .work .number)
+      && leb (e .work .stored) (trbCount (recordAt records (e .work .number)))
+      && not (isNone (nextOf e (recordAt records (e .work .number))))
+
+  by-course : Decides onCourse (OnCourse e records)
+  by-course =
+      let v = recordAt records (e .work .number) in
+      reworded
+      (λ k. record { number = k .0 .0 .0; held = k .0 .0 .1 .0; flying = k .0 .0 .1 .1; counted = k .0 .1; more = k .1 })
+      (λ k. (((k .number, (k .held, k .flying)), k .counted), k .more))
+      (both
+      (both
+      (both (by-ltb (e .work .number) recordCount) (both (by-eqb (bit (e .account .occupancy) (e .work .number)) 1) (by-eqb (v .state) inFlight)))
+      (by-leb (e .work .stored) (trbCount v)))
+      (by-false (isNone (nextOf e v))))
+
+  -- "A store number past its request's stores", in a submission that is under way, is none of these.
+  pub by-strays : Decides (strays e records) ((e .work .busy ≡ true) × (OnCourse e records → ⊥))
+  unfolding strays
+  by-strays = both (by-true (e .work .busy)) (negated by-course)
+
+  pub on-course : strays e records ≡ false → e .work .busy ≡ true → OnCourse e records
+  unfolding strays
+  on-course s busy = by-course .so (held-to (e .work .busy) onCourse s busy)
+
+  -- With none under way there is nothing to stray from.
+  pub at-rest : e .work .busy ≡ false → strays e records ≡ false
+  unfolding strays
+  at-rest idle = rw idle
+
+  pub record FitsWith : Type 0 where
+    pub endpoint : Fits e
+    pub size : length records ≡ recordsSize
+    pub course : strays e records ≡ false
+
+  pub by-fits-with : Decides (fitsWith e records) FitsWith
+  unfolding fitsWith
+  by-fits-with =
+      reworded
+      (λ k. record { endpoint = k .0 .0; size = k .0 .1; course = k .1 })
+      (λ k. ((k .endpoint, k .size), k .course))
+      (both (both (by-fits e) (by-eqb (length records) recordsSize)) (by-false (strays e records)))
+
+-- ---- the rows of a submission
+
+-- Row 2: "outstanding + required above L-2".
+pub by-crowded : (slots outstanding more : ℕ) → Decides (crowded slots outstanding more) (slots - 2 < outstanding + more)
+unfolding crowded
+by-crowded slots outstanding more = by-ltb (slots - 2) (outstanding + more)
+
+-- Row 5: "length above 0 and (address > mask or address + length > mask)".
+pub by-beyond : (mask address size : ℕ) → Decides (beyond mask address size) ((0 < size) × ((mask < address) ⊎ (mask < address + size)))
+unfolding beyond
+by-beyond mask address size = both (by-ltb 0 size) (either (by-ltb mask address) (by-ltb mask (address + size)))
+
+-- Row 3, by the kind of the request.
+module _ (kind request value index address size : ℕ) (lengths : List ℕ) where
+  pub by-too-long-control : Decides (tooLong (Control kind request value index address size) lengths) (65535 < size)
+  unfolding tooLong
+  by-too-long-control = by-ltb longestControl size
+
+-- A number of a list is over a limit.
+abbrev pub SomeOver : ℕ → List ℕ → Type 0
+SomeOver most ns = (k : ℕ) × (k < length ns) × (most < getD ns k 0)
+
+none-over : (ns : List ℕ) → Decides (someOver ns) (SomeOver longest ns)
+none-over [] = record { so = λ e. absurd (false≢true e); not-so = λ e k. omega arith }
+none-over (n ∷ ns) = reworded there back (either (by-ltb longest n) (none-over ns))
+  where
+    there : (longest < n) ⊎ SomeOver longest ns → SomeOver longest (n ∷ ns)
+    there (inl h) = (0, omega arith, h)
+    there (inr k) = (suc (k .0), omega arith, k .2)
+
+    at : (k : ℕ) → k < length (n ∷ ns) → longest < getD (n ∷ ns) k 0 → (longest < n) ⊎ SomeOver longest ns
+    at zero l h = inl h
+    at (suc k) l h = inr (k, omega arith, h)
+
+    back : SomeOver longest (n ∷ ns) → (longest < n) ⊎ SomeOver longest ns
+    back k = at (k .0) (k .1) (k .2)
+
+module _ (incoming : Bool) (address size : ℕ) (lengths : List ℕ) where
+  pub by-too-long-bulk : Decides (tooLong (Bulk incoming address size) lengths) (65536 < size)
+  unfolding tooLong
+  by-too-long-bulk = by-ltb longest size
+
+  pub by-too-long-interrupt : Decides (tooLong (Interrupt incoming address size) lengths) (65536 < size)
+  unfolding tooLong
+  by-too-long-interrupt = by-ltb longest size
+
+  -- "Over 64 packets", one packet over 65,536, "or sum over buffer".
+  pub by-too-long-isoch : Decides (tooLong (Isoch incoming address size) lengths) (((64 < length lengths) ⊎ SomeOver 65536 lengths) ⊎ (size < sumOf lengths))
+  unfolding tooLong
+  by-too-long-isoch = either (either (by-ltb packetCount (length lengths)) (none-over lengths)) (by-ltb size (sumOf lengths))
+
+-- Row 4: "all 64 records taken".
+full-or-not : (m : ℕ) (f : Found) → Answers 64 (bit m) f → Decides (isFull f) ((k : ℕ) → k < 64 → bit m k ≡ 1)
+full-or-not m (At i) a = record {
+  so = λ e. absurd (false≢true e);
+  not-so = λ e all. let set = all i (a .within) in let clear = a .clear in omega arith;
+}
+full-or-not m Full a = record { so = λ e. a; not-so = λ e all. false≢true (sym e) }
+
+pub by-full : (m : ℕ) → Decides (isFull (lowestClear m)) ((k : ℕ) → k < 64 → bit m k ≡ 1)
+by-full m = full-or-not m (lowestClear m) (lowest-answers m)
+
+-- ---- row 11
+
+by-outside : (s : Slot) → Decides (isOutside s) (s ≡ slot.Outside)
+by-outside (slot.At i) = record { so = λ e. absurd (false≢true e); not-so = λ e k. let z : _≡_ {A = ℕ} 0 1 = cc in omega arith }
+by-outside slot.Outside = record { so = λ e. refl; not-so = λ e k. false≢true (sym e) }
+
+-- "Event not type 32, other slot or endpoint id, or address not one of the L slots."
+pub by-foreign : (e : Endpoint) (w : Words)
+    → Decides (foreign e w)
+    ((((eventOf w .kind ≡ 32 → ⊥) ⊎ (eventOf w .slot ≡ e .who .slot → ⊥)) ⊎ (eventOf w .endpoint ≡ e .who .dci → ⊥))
+    ⊎ (slotOf (e .shape .base) (e .shape .slots) (eventOf w .address) ≡ slot.Outside))
+unfolding foreign slotFor
+by-foreign e w =
+    either
+    (either
+    (either (negated (by-eqb (eventOf w .kind) 32)) (negated (by-eqb (eventOf w .slot) (e .who .slot))))
+    (negated (by-eqb (eventOf w .endpoint) (e .who .dci))))
+    (by-outside (slotOf (e .shape .base) (e .shape .slots) (eventOf w .address)))

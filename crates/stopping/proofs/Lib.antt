@@ -1,0 +1,3 @@
+-- The laws of `stopping`.
+pub mod RetireLaws
+pub mod StandLaws

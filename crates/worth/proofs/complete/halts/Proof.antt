@@ -1,0 +1,10 @@
+-- `worth::complete::halts` meets its contract, by its test. Assumes nothing.
+use borrow.Author.Needs.{needs}
+use Rattle.worth.proofs.complete.halts.Statement.{statement}
+use Rattle.worth.proofs.complete.halts.Tie as tie
+
+returns-2 : tie.Need-returns-2
+returns-2 c = simp (c .if1 .left)
+
+pub halts-spec : {M : Type 1} → statement M
+halts-spec = tie.close (tie.spec (λ c. search needs) returns-2)
