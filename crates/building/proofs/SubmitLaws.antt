@@ -22,8 +22,8 @@ use Rattle.dock.specs.declared.Stored.{Stored}
 use Rattle.dock.specs.declared.StoredOne.{StoredOne}
 use Rattle.dock.specs.declared.StoredAll.{StoredAll}
 use Rattle.dock.specs.declared.Submitted.the-variants as submitted
-use Rattle.building.specs.Admitted.{Admitted}
-use Rattle.building.proofs.StartLaws.{admitted}
+use Rattle.starting.specs.Admitted.{Admitted}
+use Rattle.starting.proofs.StartLaws.{admitted}
 
 -- ---- the stores
 

@@ -1,22 +1,11 @@
 // Configuring a periodic endpoint.
 ghost use mathlib.Core.Path.{_≡_};
-ghost use Prim.Native.Nat.{max};
 ghost use Rattle.dock.specs.State.{withPeriodic};
 ghost use Rattle.dock.specs.Configure.{configure};
 use dock::Changed;
 use dock::Endpoint;
 use dock::Outcome;
 use dock::Periodic;
-
-// "Interval at least 1 (0 is taken as 1)."
-pub fn at_least_one(interval: u8) -> u8
-    ensures { λ r. ⌜ r ≡ max 1 interval ⌝ }
-{
-    if interval == 0 {
-        return 1;
-    }
-    interval
-}
 
 // The endpoint with other settings.
 fn with_periodic(e: Endpoint, p: Periodic) -> Endpoint
@@ -40,7 +29,7 @@ pub fn configure_periodic(e: Endpoint, packet: u16, burst: u8, interval: u8) -> 
     let settings = Periodic {
         packet,
         burst,
-        interval: at_least_one(interval),
+        interval: storing::act::at_least_one(interval),
         frame: e.periodic.frame,
     };
     Changed {

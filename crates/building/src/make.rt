@@ -2,7 +2,7 @@
 ghost use mathlib.Core.Path.{_≡_};
 ghost use mathlib.Core.Bool.{not};
 ghost use lib.ListN.{length};
-ghost use Rattle.dock.specs.State.{idle, fresh, blank};
+ghost use Rattle.dock.specs.State.{fresh, blank};
 ghost use Rattle.dock.specs.Make.{sized, makeNo, zeros, make};
 use dock::Account;
 use dock::Changed;
@@ -48,20 +48,6 @@ fn make_no(
     base::earlier(no, !are_sized(slots, ring, finished, records, packets), 1)
 }
 
-// No submission under way.
-pub fn idle() -> Work
-    ensures { λ r. ⌜ r ≡ idle ⌝ }
-{
-    Work {
-        busy: false,
-        number: 0,
-        stored: 0,
-        address: 0,
-        place: 0,
-        cycle: false,
-    }
-}
-
 // What a making that was refused gives back.
 fn blank() -> Endpoint
     ensures { λ r. ⌜ r ≡ blank ⌝ }
@@ -92,7 +78,7 @@ fn blank() -> Endpoint
             halted: false,
             reset: false,
         },
-        work: idle(),
+        work: storing::act::idle(),
     }
 }
 
@@ -122,7 +108,7 @@ fn fresh(slots: usize, base: u64, mask: u64, slot: u8, dci: u8) -> Endpoint
             halted: false,
             reset: false,
         },
-        work: idle(),
+        work: storing::act::idle(),
     }
 }
 

@@ -1,133 +1,10 @@
 // The start of a submission: "it stores no TRB; it takes id, record and count, and writes the record's packets anew, unmarked".
 ghost use mathlib.Core.Path.{_≡_};
-ghost use Prim.Native.Nat.{_+_, _*_, _^_, _≤_, _<_};
-ghost use lib.ListN.{length};
-ghost use lib.Seq.{paste};
-ghost use Rattle.mask.specs.Compute.{lowestClear};
-ghost use Rattle.table.specs.Packets.{packetCount};
-ghost use Rattle.dock.specs.Start.{numberFrom, atLeastOne, writePackets, start};
-ghost use Rattle.building.specs.Counts.{givenBy, requiredBy, startedBy, begunWith};
-ghost use Rattle.building.specs.Admitted.{Admitted};
-use crate::admission;
-use crate::requests;
-use dock::Account;
+ghost use Rattle.dock.specs.Start.{start};
 use dock::Changed;
 use dock::Endpoint;
 use dock::Outcome;
 use dock::Request;
-use dock::Work;
-use mask::Found;
-
-// "The lowest clear bit is taken."
-fn record_taken(occupancy: u64) -> usize
-    ensures { λ r. ⌜ (r ≡ numberFrom (lowestClear occupancy)) × (r < 64) ⌝ }
-{
-    let found = mask::lowest_clear(occupancy);
-    match found {
-        Found::At(i) => i,
-        Found::Full => 0,
-    }
-}
-
-// The lengths, one behind the other, from a word on.
-fn copy_lengths(packets: &mut [u64], start: usize, lengths: &[u64])
-    requires { ⌜ start + length (now lengths) ≤ length (now packets) ⌝ }
-    ensures { λ _. ⌜ now (packets .exit) ≡ paste (now (packets .entry)) start (now (lengths .entry)) (length (now (lengths .entry))) ⌝ }
-{
-    let mut i: usize = 0;
-    while i < lengths.len() {
-        packets[start + i] = lengths[i];
-        i += 1;
-    }
-}
-
-// "No packets means one packet of length 0."
-fn write_lengths(packets: &mut [u64], number: usize, lengths: &[u64])
-    requires { ⌜ (packetCount * number + packetCount ≤ length (now packets)) × (length (now lengths) ≤ packetCount) ⌝ }
-    ensures { λ _. ⌜ now (packets .exit) ≡ paste (now (packets .entry)) (packetCount * number) (atLeastOne (now (lengths .entry))) (length (atLeastOne (now (lengths .entry)))) ⌝ }
-{
-    let start = table::packets::PACKETS * number;
-    if lengths.len() == 0 {
-        packets[start] = 0;
-        return;
-    }
-    copy_lengths(packets, start, lengths);
-}
-
-// "Writes the record's packets anew, unmarked." Only an ISO request has packets.
-fn write_packets(packets: &mut [u64], number: usize, request: Request, lengths: &[u64])
-    requires { ⌜ (packetCount * number + packetCount ≤ length (now packets)) × (givenBy request (length (now lengths)) ≤ packetCount) ⌝ }
-    ensures { λ _. ⌜ now (packets .exit) ≡ writePackets (now (packets .entry)) number request (now (lengths .entry)) ⌝ }
-{
-    match request {
-        Request::Control {
-            kind: _,
-            request: _,
-            value: _,
-            index: _,
-            address: _,
-            length: _,
-        } => {}
-        Request::Bulk {
-            incoming: _,
-            address: _,
-            length: _,
-        } => {}
-        Request::Interrupt {
-            incoming: _,
-            address: _,
-            length: _,
-        } => {}
-        Request::Isoch {
-            incoming: _,
-            address: _,
-            length: _,
-        } => write_lengths(packets, number, lengths),
-    }
-}
-
-// The endpoint with the id, the record and the count taken, and the submission under way.
-fn started(e: Endpoint, next: u64, number: usize, request: Request, count: usize) -> Endpoint
-    requires { ⌜ (number < 64) × (e .account .outstanding + requiredBy request count < 2 ^ 64) ⌝ }
-    ensures { λ r. ⌜ r ≡ startedBy e next number request count ⌝ }
-{
-    let account = Account {
-        next,
-        occupancy: mask::with_bit(e.account.occupancy, number),
-        outstanding: e.account.outstanding + requests::required_of(request, count),
-    };
-    let work = Work {
-        busy: true,
-        number,
-        stored: 0,
-        address: requests::buffer_of(request),
-        place: e.at.place,
-        cycle: e.at.cycle,
-    };
-    let mut next = e;
-    next.account = account;
-    next.work = work;
-    next
-}
-
-// All that an admitted submission takes and writes.
-fn begin(
-    e: Endpoint,
-    records: &mut [u64],
-    packets: &mut [u64],
-    request: Request,
-    lengths: &[u64],
-) -> Endpoint
-    requires { ⌜ Admitted e (length (now records)) (length (now packets)) request (length (now lengths)) ⌝ }
-    ensures { λ r. ⌜ (r, now (records .exit), now (packets .exit)) ≡ begunWith e (now (records .entry)) (now (packets .entry)) request (now (lengths .entry)) ⌝ }
-{
-    let number = record_taken(e.account.occupancy);
-    let taken = ids::free_id(records, e.account.occupancy, e.account.next);
-    let v = requests::record_for(request, lengths.len(), taken.id, e.at.place);
-    table::records::put_record(records, number, v);
-    write_packets(packets, number, request, lengths);
-    started(e, taken.next, number, request, lengths.len())
-}
 
 pub fn start_request(
     e: Endpoint,
@@ -138,7 +15,7 @@ pub fn start_request(
 ) -> Changed
     ensures { λ r. ⌜ (r, now (records .exit), now (packets .exit)) ≡ start e (now (records .entry)) (now (packets .entry)) request (now (lengths .entry)) ⌝ }
 {
-    let no = admission::start_no(e, records, packets.len(), request, lengths);
+    let no = starting::admission::start_no(e, records, packets.len(), request, lengths);
     if no != 0 {
         return Changed {
             answer: Outcome::Refused(no),
@@ -147,6 +24,6 @@ pub fn start_request(
     }
     Changed {
         answer: Outcome::Done,
-        endpoint: begin(e, records, packets, request, lengths),
+        endpoint: starting::act::begin(e, records, packets, request, lengths),
     }
 }

@@ -1,7 +1,6 @@
 // The whole submission: the start, and its stores in order.
 ghost use mathlib.Core.Path.{_≡_};
 ghost use Rattle.dock.specs.Submit.{finish, submit};
-use crate::requests;
 use crate::start::start_request;
 use crate::store::next_store;
 use dock::Endpoint;
@@ -83,7 +82,7 @@ pub fn submit_request(
             endpoint: at,
         },
         Outcome::Done => {
-            let most = requests::required_of(request, lengths.len()) as usize + 2;
+            let most = starting::requests::required_of(request, lengths.len()) as usize + 2;
             finish(most, at, ring, finished, records, packets)
         }
     }

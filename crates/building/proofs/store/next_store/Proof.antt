@@ -4,8 +4,8 @@ use borrow.Author.Tests.{ne-eqb}
 use denote.Ref.{now}
 use lib.ListN.{length}
 use Rattle.dock.specs.Store.{storeNo, store}
-use Rattle.building.specs.Steps.{storedWith, storedBy}
-use Rattle.building.proofs.StoreLaws.{ready}
+use Rattle.storing.specs.Steps.{storedWith, storedBy}
+use Rattle.storing.proofs.StoreLaws.{ready}
 use borrow.Author.Needs.{needs}
 use Rattle.building.proofs.store.next_store.Statement.{statement}
 use Rattle.building.proofs.store.next_store.Tie as tie

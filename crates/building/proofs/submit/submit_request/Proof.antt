@@ -11,7 +11,7 @@ use Rattle.base.proofs.Decide.{passed, failed}
 use Rattle.dock.specs.declared.StoredAll.{StoredAll}
 use Rattle.dock.specs.Limits.{ringSize}
 use Rattle.dock.specs.Submit.{finish, joined}
-use Rattle.building.proofs.StartLaws.{required-by}
+use Rattle.starting.proofs.StartLaws.{required-by}
 use Rattle.building.proofs.SubmitLaws.{was-admitted, unsized, whole}
 use borrow.Author.Needs.{needs}
 use Rattle.building.proofs.submit.submit_request.Statement.{statement}

@@ -1,0 +1,2 @@
+-- The laws of a store.
+pub mod StoreLaws

@@ -1,0 +1,68 @@
+-- A store: its tests as facts, and its parts as the code makes them. Assumes nothing.
+use Prim.Native.Nat.{ℕ, _≤_}
+use mathlib.Core.Bool.{Bool, true, false, not, _&&_, and-eq-true-iff}
+use mathlib.Core.List.{List}
+use mathlib.Core.Path.{_≡_, refl}
+use native.Mathlib.Omega.{arith}
+use borrow.Author.Tests.{eqb-true, not-false}
+use lib.Dec.{eqb}
+use lib.ListN.{length}
+use Rattle.base.proofs.Chosen.{quiet}
+use Rattle.table.specs.Records.{recordAt}
+use Rattle.table.specs.declared.records.Record.{Record}
+use Rattle.dock.specs.Fit.{Next, theLink, theTrb, theSetup, none, fitsWith}
+use Rattle.dock.specs.Limits.{ringSize, packetsSize}
+use Rattle.dock.specs.Store.{storeTests, storeNo, stepped, slotStored, ringStored, finishedStored, settled, storedAnswer}
+use Rattle.dock.specs.Stores.{trbOf, packetSize}
+use Rattle.dock.specs.declared.Endpoint.{Endpoint}
+use Rattle.dock.specs.declared.StoredOne.{StoredOne}
+use Rattle.checks.proofs.Laws.{fit, fit-with, kept, count-most}
+use Rattle.storing.specs.Ready.{Ready}
+use Rattle.storing.specs.Steps.{controlTrb, trbWith, advancedBy, concludedBy, linkBy, trbBy, setupBy, storedWith}
+
+-- Where no test holds, a store has what it needs.
+pub ready : (e : Endpoint) (ring finished : ℕ) (records : List ℕ) (packets : ℕ) → storeNo e ring finished records packets ≡ 0
+    → Ready e ring finished (length records) packets
+unfolding storeNo storeTests
+ready e ring finished records packets t =
+    let ts = storeTests e ring finished records packets in
+    let size = ringSize (e .shape .slots) in
+    let all =
+    and-eq-true-iff (fitsWith e records && eqb ring size && eqb finished size) (eqb packets packetsSize) .0
+    (not-false _ (quiet ts 0 refl t (omega arith))) in
+    let three = and-eq-true-iff (fitsWith e records && eqb ring size) (eqb finished size) .0 (all .0) in
+    let two = and-eq-true-iff (fitsWith e records) (eqb ring size) .0 (three .0) in
+    let busy = not-false (e .work .busy) (quiet ts 1 refl t (omega arith)) in
+    let whole = fit-with e records (two .0) in
+    let sound = fit e (whole .fit) in
+    let way = kept e records (whole .kept) busy in
+    record {
+      slots = eqb-true _ _ (two .1);
+      places = eqb-true _ _ (three .1);
+      table = whole .size;
+      words = eqb-true _ _ (all .1);
+      most = sound .limits .most;
+      here = sound .places .here;
+      setup = sound .places .setup busy;
+      number = way .number;
+      stored = let s = way .stored in omega (arith, count-most (recordAt records (e .work .number)));
+    }
+
+-- ---- what each store leaves
+
+module _ (e : Endpoint) (v : Record) (ring finished packets : List ℕ) where
+  pub link-stored : _≡_ {A = StoredOne × List ℕ × List ℕ} (linkBy e v ring .0, linkBy e v ring .1, finished) (storedWith theLink e v ring finished packets)
+  unfolding storedWith linkBy concludedBy stepped slotStored ringStored finishedStored storedAnswer
+  link-stored = refl
+
+  pub trb-stored : trbBy e v (packetSize e packets (e .work .stored)) ring finished ≡ storedWith theTrb e v ring finished packets
+  unfolding storedWith trbBy advancedBy trbWith controlTrb trbOf concludedBy stepped slotStored ringStored finishedStored storedAnswer
+  trb-stored = refl
+
+  pub setup-stored : _≡_ {A = StoredOne × List ℕ × List ℕ} (setupBy e v ring .0, setupBy e v ring .1, finished) (storedWith theSetup e v ring finished packets)
+  unfolding storedWith setupBy concludedBy stepped slotStored ringStored finishedStored storedAnswer
+  setup-stored = refl
+
+  pub none-stored : _≡_ {A = StoredOne × List ℕ × List ℕ} (concludedBy e v 0, ring, finished) (storedWith none e v ring finished packets)
+  unfolding storedWith concludedBy stepped slotStored ringStored finishedStored storedAnswer
+  none-stored = refl
