@@ -466,7 +466,7 @@ pub record Looked (s : State) (id : ℕ) (t : ReclaimedOne × List ℕ × List �
   pub touches : Touches (s .endpoint) (s .records) (s .packets) number (flightPart (s .records) (s .endpoint .account .occupancy) number) t
 
 -- The packets of a record that is not bad are at most 64, where it has any.
-few-packets : (e : Endpoint) (v : Record) → (eqb (v .state) inFlight && (leb (e .shape .slots) (v .place + 1) || (eqb (v .kind) isoch && ltb packetCount (v .count)))) ≡ false
+pub few-packets : (e : Endpoint) (v : Record) → (eqb (v .state) inFlight && (leb (e .shape .slots) (v .place + 1) || (eqb (v .kind) isoch && ltb packetCount (v .count)))) ≡ false
     → v .state ≡ inFlight → v .kind ≡ isoch → v .count ≤ packetCount
 few-packets e v f state kind =
     ⊎-elim

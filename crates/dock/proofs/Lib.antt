@@ -2,6 +2,7 @@
 pub mod AskedLaws
 pub mod BooksLaws
 pub mod CompletionLaws
+pub mod CountedLaws
 pub mod FinishLaws
 pub mod FitLaws
 pub mod InvariantLaws
@@ -13,8 +14,11 @@ pub mod Reached
 pub mod Readings
 pub mod ReclaimLaws
 pub mod RefusalLaws
+pub mod RequestedLaws
+pub mod ResidualLaws
 pub mod RetireLaws
 pub mod RowLaws
+pub mod SettledLaws
 pub mod StartLaws
 pub mod StartedLaws
 pub mod StepLaws
