@@ -3,10 +3,12 @@ pub mod AskedLaws
 pub mod BooksLaws
 pub mod CompletionLaws
 pub mod CountedLaws
+pub mod CreditLaws
 pub mod FinishLaws
 pub mod FitLaws
 pub mod InvariantLaws
 pub mod LengthLaws
+pub mod NeededLaws
 pub mod NextLaws
 pub mod NothingLaws
 pub mod OnceLaws
