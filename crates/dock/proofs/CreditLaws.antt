@@ -1,9 +1,9 @@
 -- In every state that is reached from making: a packet that is reclaimed counts exactly what its event is worth, which is what the standard lets that
 -- event count for; an ISO request that is done has every packet marked; and an event for any other slot changes nothing of a reclaim. Assumes nothing.
 use Prim.Native.Nat.{ℕ, _+_, _*_, _^_, _≤_, _<_}
-use mathlib.Core.Bool.{Bool, true, false}
+use mathlib.Core.Bool.{true, false}
 use mathlib.Core.List.{List}
-use mathlib.Core.Path.{_≡_, refl, sym, ap, _∙_}
+use mathlib.Core.Path.{_≡_, refl, _∙_}
 use native.Mathlib.Omega.{arith}
 use lib.Dec.{eqb}
 use lib.ListN.{length, getD}
@@ -21,7 +21,6 @@ use Rattle.table.specs.declared.packets.Packet.{Packet}
 use Rattle.table.specs.declared.records.Record.{Record}
 use Rattle.table.proofs.FinishedLaws.{others-kept}
 use Rattle.dock.specs.declared.Completion.{Completion}
-use Rattle.dock.specs.declared.Endpoint.{Endpoint}
 use Rattle.dock.specs.declared.Reclaimed.the-variants as answer
 use Rattle.dock.specs.declared.Taken.{Taken}
 use Rattle.dock.specs.Worth.{bytes, worth}
@@ -31,7 +30,7 @@ use Rattle.dock.specs.Reclaim.{codeOf, remainingOf, placeOf, counted, re
 use Rattle.dock.proofs.Reached.{State, afterHandOver, afterReclaim, Reached}
 use Rattle.dock.proofs.RetireLaws.{picked}
 use Rattle.dock.proofs.InvariantLaws.{slot-below, fill-long, slots-some, reached-sound}
-use Rattle.dock.proofs.FitLaws.{reached-placed, reclaim-number}
+use Rattle.dock.proofs.FitLaws.{reclaim-number}
 use Rattle.dock.proofs.OnceLaws.{Has, held-found}
 use Rattle.dock.proofs.SettledLaws.{Refuses}
 use Rattle.dock.proofs.CountedLaws.{Walks, few, packet-exact, packet-moved, done-marked}

@@ -1,10 +1,9 @@
 -- Which events a reclaim reads, and which it cannot do without. It reads none but those in the places of its own request's TRBs, and of those of marked
 -- packets none: whatever else the finished table holds, answer and effect are the same. A request in flight is over only where the event of its last
 -- TRB stands, or one with a refused code; and it is done only where the last one does. Assumes nothing.
-use Prim.Native.Nat.{ℕ, zero, suc, _+_, _-_, _%_, _≤_, _<_, min}
+use Prim.Native.Nat.{ℕ, zero, suc, _+_, _≤_, _<_, min}
 use mathlib.Core.Bool.{Bool, true, false, _&&_, _||_, not, false≢true}
 use mathlib.Core.List.{List}
-use mathlib.Core.Logic.{_⊎_, inl, inr, ⊎-elim}
 use mathlib.Core.Path.{_≡_, refl, sym, ap, _∙_, subst}
 use native.Mathlib.Nat.{mod-eq-of-lt}
 use native.Mathlib.Omega.{arith}
@@ -13,8 +12,6 @@ use lib.Dec.{eqb, leb, ltb}
 use lib.ListN.{length}
 use Rattle.base.specs.First.{pick}
 use Rattle.base.proofs.Chosen.{quiet}
-use Rattle.base.proofs.Compare.{same-or-not}
-use Rattle.ids.specs.Free.{recordCount}
 use Rattle.ids.specs.Lookup.{findIn}
 use Rattle.ids.specs.declared.Lookup.{Lookup}
 use Rattle.ids.specs.declared.Lookup.the-variants.{At, Nothing}
@@ -29,19 +26,18 @@ use Rattle.table.specs.declared.records.Record.{Record}
 use Rattle.table.proofs.PacketLaws.{packet-other}
 use Rattle.dock.specs.declared.Completion.{Completion}
 use Rattle.dock.specs.declared.Endpoint.{Endpoint}
-use Rattle.dock.specs.declared.Reclaimed.{Reclaimed}
 use Rattle.dock.specs.declared.Reclaimed.the-variants as answer
 use Rattle.dock.specs.declared.ReclaimedOne.{ReclaimedOne}
 use Rattle.dock.specs.Stores.{trbCount}
 use Rattle.dock.specs.Worth.{Worth, bytes, refused, worth, accepted}
-use Rattle.dock.specs.Reclaim.{complete, bulkBy, Seen, onward, ends, stageBy, statusBy, recordedBy, afterStage, codeOf, remainingOf, placeOf, counted, closeBelow, Swept, unfinished, fatal, found, sweptBy, sweptAt, sweep, sweptAnswer, reclaimIso, dataSeen, dataPlace, statusPlace, reclaimControl, reclaimBulk, badRecord, reclaimTests, reclaimNo, reclaimFlying, reclaimFound, reclaim, nothing}
+use Rattle.dock.specs.Reclaim.{complete, bulkBy, Seen, onward, ends, stageBy, statusBy, recordedBy, afterStage, codeOf, remainingOf, placeOf, counted, closeBelow, Swept, found, sweptBy, sweptAt, sweep, sweptAnswer, reclaimIso, dataSeen, dataPlace, statusPlace, reclaimControl, reclaimBulk, badRecord, reclaimTests, reclaimNo, reclaimFlying, reclaimFound, reclaim, nothing}
 use Rattle.dock.proofs.CompletionLaws.{never-done, refused-not-done}
 use Rattle.dock.proofs.RefusalLaws.{reclaim-acts}
-use Rattle.dock.proofs.InvariantLaws.{few-packets, left-true, right-true, both-false}
+use Rattle.dock.proofs.InvariantLaws.{few-packets, both-false}
 use Rattle.dock.proofs.RetireLaws.{picked}
 use Rattle.dock.proofs.ReclaimLaws.{final}
 use Rattle.dock.proofs.SettledLaws.{Refuses, Ending, ran, broke, closed}
-use Rattle.dock.proofs.CountedLaws.{Walks, reclaim-walks, reclaim-settles, few}
+use Rattle.dock.proofs.CountedLaws.{Walks, reclaim-settles, few}
 
 -- A choice is the same where both sides are, each where the test leads to it.
 same-picks : {A : Type 0} (b : Bool) (x y x′ y′ : A) → (b ≡ true → x ≡ x′) → (b ≡ false → y ≡ y′) → pick b x y ≡ pick b x′ y′

@@ -1,17 +1,16 @@
 -- In every state that is reached from making no packet asks for more than 65,536 bytes, so that a packet that is counted keeps all that its event is
 -- worth. Assumes nothing.
-use Prim.Native.Nat.{ℕ, zero, suc, _+_, _%_, _^_, _≤_, _<_}
+use Prim.Native.Nat.{ℕ, zero, suc, _≤_, _<_}
 use mathlib.Core.Bool.{Bool, true, false, _||_}
 use mathlib.Core.List.{List}
 use mathlib.Core.Logic.{_⊎_, inl, inr, ⊎-elim}
-use mathlib.Core.Path.{_≡_, refl, sym, ap, _∙_, subst}
+use mathlib.Core.Path.{_≡_, refl, ap, _∙_}
 use native.Mathlib.Omega.{arith}
 use borrow.Author.Tests.{eqb-true}
 use lib.Dec.{eqb}
 use lib.ListN.{length, getD, replicate}
 use Rattle.base.specs.First.{pick}
 use Rattle.base.proofs.Compare.{same-or-not, lt-or-le}
-use Rattle.base.proofs.Pasted.{pasted-behind}
 use Rattle.ids.specs.Free.{recordCount}
 use Rattle.ids.specs.Lookup.{findIn}
 use Rattle.ids.specs.declared.Lookup.{Lookup}
@@ -19,7 +18,7 @@ use Rattle.ids.specs.declared.Lookup.the-variants.{At, Nothing}
 use Rattle.table.specs.Finished.{finishedAt}
 use Rattle.table.specs.declared.finished.Finished.{Finished}
 use Rattle.table.specs.declared.finished.Finished.the-variants as place
-use Rattle.table.specs.Packets.{packetCount, packetIndex, packetOf, packetAt}
+use Rattle.table.specs.Packets.{packetCount, packetIndex, packetAt}
 use Rattle.table.specs.Records.{control, bulk, interrupt, isoch, inFlight, stopped, recordAt}
 use Rattle.table.specs.declared.packets.Packet.{Packet}
 use Rattle.dock.specs.declared.Endpoint.{Endpoint}

@@ -3,13 +3,12 @@
 use Prim.Native.Nat.{ℕ, _+_, _-_, _%_, _^_, _≤_, _<_}
 use mathlib.Core.Bool.{Bool, true, false, not, false≢true}
 use mathlib.Core.List.{List}
-use mathlib.Core.Path.{_≡_, refl, sym, ap, _∙_, subst}
+use mathlib.Core.Path.{_≡_, refl, ap, _∙_, subst}
 use native.Mathlib.Omega.{arith}
 use borrow.Author.Tests.{eqb-true, eqb-false}
 use lib.Dec.{eqb}
 use Rattle.trb.specs.declared.Words.{Words}
 use Rattle.table.specs.Finished.{finishedAt}
-use Rattle.table.specs.declared.finished.Finished.{Finished}
 use Rattle.table.specs.declared.finished.Finished.the-variants as place
 use Rattle.table.specs.declared.records.Record.{Record}
 use Rattle.dock.specs.declared.Completion.{Completion}
