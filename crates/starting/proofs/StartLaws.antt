@@ -78,7 +78,7 @@ admitted e records packets request lengths t =
       next = sound .next;
       room =
           rw (sym (required-by request lengths))
-          (room (e .shape .slots) (e .account .outstanding) (required request lengths) (sound .limits .most) (quiet ts 3 refl t (omega arith)));
+          (room (e .shape .slots) (e .account .outstanding) (required request lengths) (sound .limits .slots-most) (quiet ts 3 refl t (omega arith)));
       few = few request lengths (quiet ts 4 refl t (omega arith));
     }
 
