@@ -5,4 +5,7 @@ pub mod Made
 pub mod Stepped
 pub mod Awaited
 pub mod Handed
+pub mod Seen
+pub mod Flying
+pub mod Reclaimed
 pub mod Example
