@@ -8,4 +8,6 @@ pub mod Handed
 pub mod Seen
 pub mod Flying
 pub mod Reclaimed
+pub mod Asked
+pub mod Started
 pub mod Example

@@ -11,7 +11,7 @@ use Rattle.trb.specs.declared.Trb.{Trb}
 use Rattle.trb.specs.declared.Trb.the-variants.{Normal, Setup, Data, Status, Isoch}
 use Rattle.dock.specs.declared.Periodic.{Periodic}
 use Rattle.dock.specs.declared.Request.{Request}
-use Rattle.dock.specs.declared.Request.the-variants as request
+use Rattle.dock.specs.declared.Request.the-variants as asks
 use Rattle.dock.specs.Start.{atLeastOne}
 use Rattle.promise.specs.Controller.{Entry}
 
@@ -46,17 +46,17 @@ isochTrbs incoming packet burst address (n ∷ ns) =
 
 -- The TRBs of a request that is submitted under these periodic settings. "Request type (bit 7 is in)." "No packets means one packet of length 0."
 abbrev pub trbsOf : Periodic → Request → List ℕ → List Trb
-trbsOf p (request.Control kind request value index address size) lengths = controlTrbs kind request value index address size (eqb (bits 7 1 kind) 1)
-trbsOf p (request.Bulk incoming address size) lengths = normalTrbs address size
-trbsOf p (request.Interrupt incoming address size) lengths = normalTrbs address size
-trbsOf p (request.Isoch incoming address size) lengths = isochTrbs incoming (p .packet) (p .burst) (stored address size) (atLeastOne lengths)
+trbsOf p (asks.Control kind request value index address size) lengths = controlTrbs kind request value index address size (eqb (bits 7 1 kind) 1)
+trbsOf p (asks.Bulk incoming address size) lengths = normalTrbs address size
+trbsOf p (asks.Interrupt incoming address size) lengths = normalTrbs address size
+trbsOf p (asks.Isoch incoming address size) lengths = isochTrbs incoming (p .packet) (p .burst) (stored address size) (atLeastOne lengths)
 
 -- The setup's fields are numbers of their types: u8, u8, u16, u16.
 abbrev pub typed : Request → Bool
-typed (request.Control kind request value index address size) = ltb kind (2 ^ 8) && ltb request (2 ^ 8) && ltb value (2 ^ 16) && ltb index (2 ^ 16)
-typed (request.Bulk incoming address size) = true
-typed (request.Interrupt incoming address size) = true
-typed (request.Isoch incoming address size) = true
+typed (asks.Control kind request value index address size) = ltb kind (2 ^ 8) && ltb request (2 ^ 8) && ltb value (2 ^ 16) && ltb index (2 ^ 16)
+typed (asks.Bulk incoming address size) = true
+typed (asks.Interrupt incoming address size) = true
+typed (asks.Isoch incoming address size) = true
 
 -- ---- where they stand
 
