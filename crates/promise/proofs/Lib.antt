@@ -10,4 +10,6 @@ pub mod Flying
 pub mod Reclaimed
 pub mod Asked
 pub mod Started
+pub mod Upcoming
+pub mod Stored
 pub mod Example
