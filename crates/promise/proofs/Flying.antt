@@ -2,7 +2,7 @@
 -- is freed. A change of nothing but such words, with no submission under way, keeps the invariant (`idle-changes`): a configuring and a cancel are such
 -- changes. Assumes nothing.
 use Prim.Native.Nat.{ℕ, zero, suc, _+_, _*_, _<_, _≤_}
-use mathlib.Core.Bool.{Bool, true, false}
+use mathlib.Core.Bool.{Bool, true, false, false≢true}
 use mathlib.Core.List.{List}
 use mathlib.Core.Logic.{⊎-elim}
 use mathlib.Core.Path.{_≡_, refl, sym, ap, _∙_, subst}
@@ -156,6 +156,7 @@ idle-changes w k e records packets i s = record {
   inv = rw (i .at, i .account) (k .inv);
   numbered = rw (i .at, i .account) (k .numbered);
   under = rests (record { free = i .still; is = idle-kept w k (i .free) });
+  begun = λ b. absurd (false≢true (sym (i .still) ∙ b));
   stored = k .stored;
   split = k .split;
   heard-consumed = k .heard-consumed;

@@ -165,6 +165,7 @@ module _ (w : World) (event : Words) (n : ℕ) (h : Sound (w .dock)) (k : Kept w
         inv = k .inv;
         numbered = k .numbered;
         under = k .under;
+        begun = k .begun;
         stored = k .stored;
         split = k .split;
         heard-consumed = f .consumed;

@@ -127,6 +127,11 @@ module _ (K : ℕ) (e : Endpoint) (records packets : List ℕ) where
       shows : Shows → Under
       hides : Hides → Under
 
+-- The request under way is the last that was admitted, and its first TRB goes to the place that is kept for it.
+pub record Begun (K : ℕ) (e : Endpoint) (records : List ℕ) (first : ℕ → ℕ) (total : ℕ) : Type 0 where
+  pub last : first (e .work .number) + trbCount (recordAt records (e .work .number)) ≡ total
+  pub first-at : (pos K (first (e .work .number))) .place ≡ e .work .place
+
 -- ---- the finished places
 
 -- The event that stands in place i is for TRB number `latest`: the last one that was stored in slot i, of `stored` in all; and no event is for a TRB
@@ -181,6 +186,7 @@ pub record Kept (w : World) : Type 0 where
   pub inv : Inv (modelIn K w before work)
   pub numbered : Numbered (modelIn K w before work) (bared (w .trbs))
   pub under : Under K (w .dock .endpoint) (w .dock .records) (w .dock .packets) (w .first (w .dock .endpoint .work .number)) before work
+  pub begun : w .dock .endpoint .work .busy ≡ true → Begun K (w .dock .endpoint) (w .dock .records) (w .first) (length (w .trbs))
   -- how many TRBs are stored
   pub stored : ℕ
   pub split : stored + length (pending work) ≡ length (w .trbs)

@@ -12,4 +12,6 @@ pub mod Asked
 pub mod Started
 pub mod Upcoming
 pub mod Stored
+pub mod Reach
+pub mod Order
 pub mod Example

@@ -62,6 +62,7 @@ module _ (ring finished records packets : List ℕ) (slots base mask slot dci : 
         inv = rw long (made-keeps {S = flat K} (omega (arith, limits .slots-least)) (replicate (4 * suc K) 0) (zeroed K));
         numbered = rw long (made-numbered {S = flat K} (omega (arith, limits .slots-least)) (replicate (4 * suc K) 0));
         under = rests (record { free = refl; is = refl });
+        begun = λ b. absurd (false≢true b);
         stored = 0;
         split = refl;
         heard-consumed = omega arith;

@@ -159,6 +159,7 @@ module _ (w : World) (h : Sound (w .dock)) (k : Kept w) (id : ℕ) where
         inv = free-keeps some-place s (k .inv) part may;
         numbered = free-numbered some-place s part (bared (w .trbs)) (k .numbered);
         under = rests (record { free = free; is = idle-kept w k free });
+        begun = λ b. absurd (false≢true (sym free ∙ b));
         stored = k .stored;
         split = k .split;
         heard-consumed = k .heard-consumed;

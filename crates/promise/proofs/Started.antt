@@ -279,6 +279,9 @@ module _ (w : World) (request : Request) (lengths : List ℕ) (h : Sound (w .doc
       ap₂ (λ (a : List (model.Entry (flat K))) (o : ℕ). model.booked m (starts td (deferred request)) a before o)
       (num .by-number ∙ ap (model.layout (flat K) (pos K 0)) joined) (omega arith) in
       let all = all-stored w k (s .resting) in
+      let here : withFirst (w .first) r total r ≡ total = (let q : eqb r r ≡ true = eq-eqb r r refl in rw q refl) in
+      let its : trbCount (recordAt records r) ≡ required request lengths = ap trbCount written ∙ count-is request lengths id (e .at .place) (s .short) in
+      let last : withFirst (w .first) r total r + trbCount (recordAt records r) ≡ length (w .trbs ++ trbs) = omega (arith, length-append (w .trbs) trbs) in
       let taken-bits = record-taken e old (w .dock .packets) request lengths passed in
       let longer : length (w .trbs ++ trbs) ≡ total + required request lengths = omega (arith, length-append (w .trbs) trbs) in
       record {
@@ -291,8 +294,9 @@ module _ (w : World) (request : Request) (lengths : List ℕ) (h : Sound (w .doc
         numbered = subst (λ (x : model.State (flat K)). Numbered x (bared (w .trbs ++ trbs))) same (rw joined at num);
         under =
             under-way K begunWith records packets (withFirst (w .first) r total r) before request lengths id (e .at .place) t ts written refl refl refl
-            (length-layout (flat K) (pos K 0) (bared (w .trbs)) ∙ bared-length (w .trbs) ∙ (let q : eqb r r ≡ true = eq-eqb r r refl in rw q refl))
+            (length-layout (flat K) (pos K 0) (bared (w .trbs)) ∙ bared-length (w .trbs) ∙ sym here)
             (to-store ∙ ap bared are);
+        begun = λ b. record { last = last; first-at = ap (λ (n : ℕ). (pos K n) .place) here ∙ producer-at };
         stored = k .stored;
         split = rw (starts-pending td (deferred request)) (omega arith);
         heard-consumed = k .heard-consumed;

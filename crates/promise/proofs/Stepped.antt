@@ -40,7 +40,7 @@ module _ (K : ℕ) (w : World) (before : ℕ) (work : model.Work (flat K)) where
   by-tests t true true = refl
   by-tests t true false = rw add-one
 
-  step-is : model.step (modelIn K w before work) ≡ modelIn K (stepped w) before work
+  pub step-is : model.step (modelIn K w before work) ≡ modelIn K (stepped w) before work
   unfolding model.step stepped does owned linkType
   step-is =
       let t = wordsAt (w .dock .ring) (w .controller .slot) in
@@ -66,6 +66,7 @@ stepped-kept w k =
       inv = subst (λ (x : model.State (flat (k .K))). Inv x) same (step-keeps some s (k .inv));
       numbered = subst (λ (x : model.State (flat (k .K))). Numbered x (bared (w .trbs))) same (step-numbered some s (bared (w .trbs)) (k .numbered));
       under = k .under;
+      begun = k .begun;
       stored = k .stored;
       split = k .split;
       heard-consumed = omega (arith, k .heard-consumed, longer (does (w .dock .ring) (w .controller)) (w .controller) (w .consumed));

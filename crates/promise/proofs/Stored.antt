@@ -29,14 +29,14 @@ use Rattle.dock.specs.Stores.{trbCount, trbOf, setupTrb}
 use Rattle.dock.proofs.NextLaws.{is-next, store-admitted}
 use Rattle.dock.proofs.Reached.{State, stateOf, Sound, afterStore}
 use Rattle.dock.proofs.RefusalLaws.{store-acts, store-refuses}
-use Rattle.dock.proofs.StepLaws.{setup-hidden, trb-current}
+use Rattle.dock.proofs.StepLaws.{step-works, setup-hidden, trb-current}
 use Rattle.order.specs.Flat.{flat, setCycle, setSlot}
 use Rattle.order.specs.Model as model
 use Rattle.order.proofs.Index.{pos, settle-slot, period}
 use Rattle.order.proofs.Moves.{Inv, store-keeps, doing-of, pending, pending-leaves}
 use Rattle.order.proofs.Numbers.{Numbered, store-numbered}
 use Rattle.promise.specs.Run.{World, withDock}
-use Rattle.promise.proofs.Kept.{positionOf, modelOf, modelIn, upcoming, linkWords, left, setupAt, Rests, Opens, Shows, Hides, Under, rests, opens, shows, hides, Latest, Places, Kept}
+use Rattle.promise.proofs.Kept.{positionOf, modelOf, modelIn, upcoming, linkWords, left, setupAt, Rests, Opens, Shows, Hides, Under, rests, opens, shows, hides, Begun, Latest, Places, Kept}
 use Rattle.promise.proofs.Laid.{bare, bared, bared-length, store-is}
 use Rattle.promise.proofs.Made.{never-event}
 use Rattle.promise.proofs.Upcoming.{upcoming-length, same-upcoming, goes-on, ends-here}
@@ -92,9 +92,10 @@ module _ (w : World) (h : Sound (w .dock)) (k : Kept w) where
   next-kept : (after : Endpoint) (ring finished : List ℕ) (work : model.Work (flat (k .K))) (stored : ℕ)
       → after .shape ≡ e .shape → after .account ≡ e .account → model.store m ≡ then ring (after .at) work
       → Under (k .K) after (w .dock .records) packets (w .first (after .work .number)) (k .before) work
+      → (after .work .busy ≡ true → Begun (k .K) after (w .dock .records) (w .first) (length (w .trbs)))
       → stored + length (pending work) ≡ length (w .trbs) → Places (k .K) finished stored (w .heard)
       → Kept (withDock w (stateOf after ring finished (w .dock .records) packets))
-  next-kept after ring finished work stored shape account same under split places = record {
+  next-kept after ring finished work stored shape account same under begun split places = record {
     K = k .K;
     some-slot = k .some-slot;
     shape = rw shape (k .shape);
@@ -103,12 +104,20 @@ module _ (w : World) (h : Sound (w .dock)) (k : Kept w) where
     inv = rw account (subst (λ (x : model.State (flat (k .K))). Inv x) same (store-keeps some-place m (k .inv)));
     numbered = rw account (subst (λ (x : model.State (flat (k .K))). Numbered x (bared (w .trbs))) same (store-numbered some-place m (k .inv) (bared (w .trbs)) (k .numbered)));
     under = under;
+    begun = begun;
     stored = stored;
     split = split;
     heard-consumed = k .heard-consumed;
     places = places;
     flights = rw account (k .flights);
   }
+
+  -- A store keeps the record, the first place and the count of the submission under way.
+  keep-begun : (n : Next) → e .work .busy ≡ true → Begun (k .K) (stepped n e v packets) (w .dock .records) (w .first) (length (w .trbs))
+  keep-begun n busy =
+      let s = step-works n e v packets in
+      let b = k .begun busy in
+      record { last = rw (s .number) (b .last); first-at = rw (s .number, s .place) (b .first-at) }
 
   -- The model's store, by what is left and by whether the producer is at the link.
   store-by : (work : model.Work (flat (k .K))) (b : Bool) → k .work ≡ work → eqb (e .at .place) (k .K) ≡ b → model.store m ≡ model.storeBy m (positionOf (e .at)) work b
@@ -266,6 +275,7 @@ module _ (w : World) (h : Sound (w .dock)) (k : Kept w) where
         (next-kept (stepped theLink e v packets) _ (w .dock .finished) (model.busy rest link none) (k .stored) refl refl
         (link-same rest none (u .is) at-link ∙ ap (then _ (around (e .at))) (leaves-some (model.around (positionOf (e .at))) rest none (omega (arith, left-count))))
         (shows (record { taken = refl; kind = u .kind; counted = u .counted; is = ap (λ (l : List Words). model.busy l link none) (sym link-left) }))
+        (λ b. keep-begun theLink (u .taken))
         (stored-is (model.busy rest link none) (u .is)) (k .places))
 
     -- or as the last store;
@@ -280,6 +290,7 @@ module _ (w : World) (h : Sound (w .dock)) (k : Kept w) where
         (next-kept _ _ (w .dock .finished) model.idle (k .stored) refl refl
         (link-same [] none is at-link ∙ ap (then _ (around (e .at))) (leaves-none (model.around (positionOf (e .at))) (λ (q : 0 ≡ k .K). omega (arith, k .some-slot))))
         (rests (record { free = refl; is = refl }))
+        (λ b. absurd (false≢true b))
         (stored-is (model.busy [] link none) is) (k .places))
 
     current : firstCycle e v ≡ e .at .cycle
@@ -298,6 +309,7 @@ module _ (w : World) (h : Sound (w .dock)) (k : Kept w) where
         (next-kept (stepped theTrb e v packets) _ _ (model.busy behind link none) (suc (k .stored)) refl refl
         (trb-same behind none is off current ∙ ap (then _ (onward (e .at))) (leaves-some (model.advance (positionOf (e .at))) behind none (omega (arith, behind-count))))
         (shows (record { taken = refl; kind = u .kind; counted = omega arith; is = refl }))
+        (λ b. keep-begun theTrb (u .taken))
         (omega (arith, stored-is _ is)) (cleared-places off))
 
     -- as the last TRB, with the link to come,
@@ -319,6 +331,7 @@ module _ (w : World) (h : Sound (w .dock)) (k : Kept w) where
         ∙ leaves-link (model.advance (positionOf (e .at))) due
         ∙ ap (λ (l : List Words). model.busy l link none) (sym none-more)))
         (shows (record { taken = refl; kind = u .kind; counted = omega arith; is = refl }))
+        (λ b. keep-begun theTrb (u .taken))
         (omega (arith, stored-is _ is)) (cleared-places off))
 
     -- and as the last store.
@@ -335,6 +348,7 @@ module _ (w : World) (h : Sound (w .dock)) (k : Kept w) where
         (ap (λ (l : List Words). model.leaves (model.advance (positionOf (e .at))) l link none) none-more
         ∙ leaves-none (model.advance (positionOf (e .at))) not-due))
         (rests (record { free = refl; is = refl }))
+        (λ b. absurd (false≢true b))
         (omega (arith, stored-is _ is, behind-count)) (cleared-places off))
 
   -- ---- a control request
@@ -363,6 +377,7 @@ module _ (w : World) (h : Sound (w .dock)) (k : Kept w) where
           marked = u .marked;
           is = ap (λ (l : List Words). model.busy l link (some again)) (sym link-left);
         }))
+        (λ b. keep-begun theLink (u .taken))
         (stored-is (model.busy rest link (some again)) (u .is)) (k .places))
 
     -- a TRB behind the setup;
@@ -377,6 +392,7 @@ module _ (w : World) (h : Sound (w .dock)) (k : Kept w) where
         (trb-same behind (some again) is off (trb-current e v (λ q. omega (arith, q .1, u .some-stored)))
         ∙ ap (then _ (onward (e .at))) (leaves-again (model.advance (positionOf (e .at))) behind again))
         (hides (record { taken = refl; kind = u .kind; some-stored = omega arith; counted = omega arith; marked = u .marked; is = refl }))
+        (λ b. keep-begun theTrb (u .taken))
         (omega (arith, stored-is _ is)) (cleared-places off))
 
     -- and the setup again: nothing is under way then.
@@ -392,6 +408,7 @@ module _ (w : World) (h : Sound (w .dock)) (k : Kept w) where
         (storeAt (w .dock .ring) (e .work .place) (setupTrb v) (e .work .cycle)) (e .at)
         (store-is (w .dock .ring) (e .work .place) (setupTrb v) (e .work .cycle) (omega (arith, h .ringLong))) refl)
         (rests (record { free = refl; is = refl }))
+        (λ b. absurd (false≢true b))
         (stored-is (model.busy [] link (some again)) is) (k .places))
 
   -- The setup's first store, with the opposite cycle.
@@ -442,6 +459,7 @@ module _ (w : World) (h : Sound (w .dock)) (k : Kept w) where
         rw on
         (next-kept (stepped theTrb e v packets) _ _ (model.busy behind link (some setup-again)) (suc (k .stored)) refl refl opens-same
         (hides (record { taken = refl; kind = u .kind; some-stored = omega arith; counted = omega (arith, some-left); marked = u .marked; is = refl }))
+        (λ b. keep-begun theTrb (u .taken))
         (omega (arith, stored-is _ (u .is), ap length others-are)) (cleared-places opens-off))
 
   -- ---- which store is next

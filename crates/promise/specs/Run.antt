@@ -14,6 +14,8 @@ use Rattle.trb.specs.Event.{eventOf}
 use Rattle.trb.specs.declared.Trb.{Trb}
 use Rattle.trb.specs.declared.Words.{Words}
 use Rattle.ring.specs.Ring.{slotAddress}
+use Rattle.table.specs.Records.{recordAt}
+use Rattle.table.specs.declared.records.Record.{Record}
 use Rattle.dock.specs.declared.Outcome.the-variants.{Done}
 use Rattle.dock.specs.declared.Request.{Request}
 use Rattle.dock.specs.HandOver.{handOverNo}
@@ -153,6 +155,24 @@ pub data Run : World → Type 0 where
       → make ring finished records packets slots base mask slot dci .0 .answer ≡ Done
       → Run (fromMaking (madeOf ring finished records packets slots base mask slot dci))
   andThen : {w : World} → Run w → (m : Move) → may w m ≡ true → Run (act w m)
+
+-- Many steps of the controller.
+unfoldable pub stepping : ℕ → World → World
+stepping zero w = w
+stepping (suc n) w = stepping n (stepped w)
+
+-- The record of the submission under way, and the number of its first TRB.
+abbrev pub recordUnderWay : World → Record
+recordUnderWay w = recordAt (w .dock .records) (w .dock .endpoint .work .number)
+
+abbrev pub firstUnderWay : World → ℕ
+firstUnderWay w = w .first (w .dock .endpoint .work .number)
+
+-- How many TRBs are stored: all that are admitted but, while a submission is under way, those of it that are still to come.
+unfoldable pub storedCount : World → ℕ
+storedCount w =
+    let work = w .dock .endpoint .work in
+    pick (work .busy) (firstUnderWay w + work .stored) (length (w .trbs))
 
 -- Many moves, and whether each may be made in its turn.
 unfoldable pub play : World → List Move → World
