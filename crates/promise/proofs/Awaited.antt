@@ -14,14 +14,15 @@ use Rattle.dock.proofs.BooksLaws.{by-flies, part-flies}
 use Rattle.dock.proofs.Reached.{flightPart, flightSum, Sound}
 use Rattle.order.specs.Flat.{flat}
 use Rattle.order.specs.Model.{layout}
-use Rattle.order.proofs.Index.{pos}
+use Rattle.order.specs.Model as model
+use Rattle.order.proofs.Index.{pos, settle-slot}
 use Rattle.order.proofs.Moves.{length-layout}
 use Rattle.order.proofs.Order.{Front, inv-in-order}
 use Rattle.promise.specs.Controller.{Entry}
 use Rattle.promise.specs.Run.{World, slotAt}
 use Rattle.promise.proofs.Counting.{covered}
 use Rattle.promise.proofs.Laid.{bared, bared-length}
-use Rattle.promise.proofs.Kept.{modelIn, Kept, Owner, Flights}
+use Rattle.promise.proofs.Kept.{positionOf, modelIn, Kept, Owner, Flights}
 
 -- ---- how many wait for an event
 
@@ -82,3 +83,13 @@ module _ (w : World) (k : Kept w) where
       ∙ ap (λ (x : List Entry). slotAt x n) (front .whole)
       ∙ slot-laid (k .K) 0 n (bared (w .trbs)) (omega (arith, consumed-few, bared-length (w .trbs)))
       ∙ ap (λ (i : ℕ). (pos (k .K) i) .place) zero-on
+
+  -- ---- where the producer stands
+
+  -- Off the link it stands at the slot of the next TRB's number.
+  pub next-at : (w .dock .endpoint .at .place ≡ k .K → ⊥) → (pos (k .K) (k .stored)) .place ≡ w .dock .endpoint .at .place
+  next-at off =
+      let same : k .numbered .stored ≡ k .stored = omega (arith, k .numbered .split, k .split, bared-length (w .trbs)) in
+      sym
+      (ap (λ (p : model.Position). p .place)
+      (sym (settle-slot (k .K) (positionOf (w .dock .endpoint .at)) off) ∙ k .numbered .next-at ∙ ap (pos (k .K)) same))

@@ -14,4 +14,5 @@ pub mod Upcoming
 pub mod Stored
 pub mod Reach
 pub mod Order
+pub mod Grounds
 pub mod Example

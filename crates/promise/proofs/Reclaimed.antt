@@ -49,7 +49,7 @@ use Rattle.promise.proofs.Seen.{Over, flying-out}
 
 -- ---- the last TRB of a request that is over
 
-place-at : (K : ℕ) → 0 < K → (n : ℕ) → (pos K n) .place ≡ n % K
+pub place-at : (K : ℕ) → 0 < K → (n : ℕ) → (pos K n) .place ≡ n % K
 place-at K some n = ap (λ (p : model.Position). p .place) (pos-is K some n)
 
 module _ (K : ℕ) (some-place : 0 < K) (slots : ℕ) (shape : slots ≡ suc K) where

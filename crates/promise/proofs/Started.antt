@@ -35,12 +35,13 @@ use Rattle.dock.proofs.StartedLaws.{count-is, required-some}
 use Rattle.order.specs.Flat.{flat}
 use Rattle.order.specs.Model.{Td, Plain, idle, opening, busy, starts, begin, MayBegin}
 use Rattle.order.specs.Model as model
-use Rattle.order.proofs.Index.{pos, settle-slot}
+use Rattle.order.proofs.Index.{pos}
 use Rattle.order.proofs.Moves.{Inv, begin-keeps, length-layout, resting, pending, starts-pending}
 use Rattle.order.proofs.Numbers.{Numbered, begin-numbered}
 use Rattle.promise.specs.Requested.{trbsOf, typed}
 use Rattle.promise.specs.Run.{World, withDock, withFirst, withTrbs, admits, started}
 use Rattle.promise.proofs.Asked.{asked-for, trbs-count, trbs-plain, link-is}
+use Rattle.promise.proofs.Awaited.{next-at}
 use Rattle.promise.proofs.Handed.{idle-kept, all-stored}
 use Rattle.promise.proofs.Kept.{positionOf, modelOf, modelIn, upcoming, linkWords, inWork, left, Under, opens, shows, Kept, Counts, Holds, Owner, Flights}
 use Rattle.promise.proofs.Laid.{bare, bared, bared-length, bared-append}
@@ -237,11 +238,8 @@ module _ (w : World) (request : Request) (lengths : List ℕ) (h : Sound (w .doc
   -- The producer stands at the number of the first TRB.
   producer-at : (pos (k .K) (length (w .trbs))) .place ≡ e .at .place
   producer-at =
-      let m = modelIn (k .K) w (k .before) (k .work) in
-      let off = resting some-place m (k .inv) still .off-link in
-      let none : length (pending (k .work)) ≡ 0 = ap (λ (x : model.Work (flat (k .K))). length (pending x)) still in
-      let all : k .numbered .stored ≡ length (w .trbs) = omega (arith, k .numbered .split, bared-length (w .trbs)) in
-      sym (ap (λ (p : model.Position). p .place) (sym (settle-slot (k .K) (positionOf (e .at)) off) ∙ k .numbered .next-at ∙ ap (pos (k .K)) all))
+      let off = resting some-place (modelIn (k .K) w (k .before) (k .work)) (k .inv) still .off-link in
+      ap (λ (n : ℕ). (pos (k .K) n) .place) (sym (all-stored w k (s .resting))) ∙ next-at w k off
 
   -- What is to be stored are the TRBs of the request.
   to-store : left (k .K) begunWith records packets ≡ bared trbs

@@ -32,14 +32,15 @@ use Rattle.dock.proofs.RefusalLaws.{store-acts, store-refuses}
 use Rattle.dock.proofs.StepLaws.{step-works, setup-hidden, trb-current}
 use Rattle.order.specs.Flat.{flat, setCycle, setSlot}
 use Rattle.order.specs.Model as model
-use Rattle.order.proofs.Index.{pos, settle-slot, period}
+use Rattle.order.proofs.Index.{pos, period}
 use Rattle.order.proofs.Moves.{Inv, store-keeps, doing-of, pending, pending-leaves}
 use Rattle.order.proofs.Numbers.{Numbered, store-numbered}
 use Rattle.promise.specs.Run.{World, withDock}
+use Rattle.promise.proofs.Awaited.{next-at}
 use Rattle.promise.proofs.Kept.{positionOf, modelOf, modelIn, upcoming, linkWords, left, setupAt, Rests, Opens, Shows, Hides, Under, rests, opens, shows, hides, Begun, Latest, Places, Kept}
 use Rattle.promise.proofs.Laid.{bare, bared, bared-length, store-is}
 use Rattle.promise.proofs.Made.{never-event}
-use Rattle.promise.proofs.Upcoming.{upcoming-length, same-upcoming, goes-on, ends-here}
+use Rattle.promise.proofs.Upcoming.{upcoming-length, left-count, same-upcoming, goes-on, ends-here}
 
 -- ---- the finished places
 
@@ -159,12 +160,6 @@ module _ (w : World) (h : Sound (w .dock)) (k : Kept w) where
   place-room : 4 * e .at .place + 4 ≤ length (w .dock .finished)
   place-room = omega (arith, place-in, h .finishedLong, k .shape)
 
-  -- Off the link it stands at the slot of the next TRB's number.
-  next-at : (e .at .place ≡ k .K → ⊥) → (pos (k .K) (k .stored)) .place ≡ e .at .place
-  next-at off =
-      let same : k .numbered .stored ≡ k .stored = omega (arith, k .numbered .split, k .split, bared-length (w .trbs)) in
-      sym (ap (λ (p : model.Position). p .place) (sym (settle-slot (k .K) (positionOf (e .at)) off) ∙ k .numbered .next-at ∙ ap (pos (k .K)) same))
-
   -- The state of the dock after a store of each kind.
   abbrev after : Next → State
   after n =
@@ -219,9 +214,6 @@ module _ (w : World) (h : Sound (w .dock)) (k : Kept w) where
       let one : count - now ≡ suc (count - (now + 1)) = omega arith in
       rw one refl
 
-  left-count : length (left (k .K) e (w .dock .records) packets) ≡ count - now
-  left-count = bared-length (upcoming (count - now) e v packets) ∙ upcoming-length (count - now) e v packets
-
   behind-count : length behind ≡ count - (now + 1)
   behind-count =
       bared-length (upcoming (count - (now + 1)) (stepped theTrb e v packets) v packets) ∙ upcoming-length (count - (now + 1)) (stepped theTrb e v packets) v packets
@@ -257,7 +249,7 @@ module _ (w : World) (h : Sound (w .dock)) (k : Kept w) where
 
   cleared-places : (e .at .place ≡ k .K → ⊥) → Places (k .K) (finishedStored theTrb e (w .dock .finished)) (suc (k .stored)) (w .heard)
   unfolding finishedStored
-  cleared-places off = places-cleared (k .K) some-place (w .dock .finished) (k .stored) (w .heard) (e .at .place) (next-at off) place-room (k .places)
+  cleared-places off = places-cleared (k .K) some-place (w .dock .finished) (k .stored) (w .heard) (e .at .place) (next-at w k off) place-room (k .places)
 
   -- ---- a request that is not a control request
 
@@ -273,7 +265,7 @@ module _ (w : World) (h : Sound (w .dock)) (k : Kept w) where
         let rest = left (k .K) e (w .dock .records) packets in
         rw on
         (next-kept (stepped theLink e v packets) _ (w .dock .finished) (model.busy rest link none) (k .stored) refl refl
-        (link-same rest none (u .is) at-link ∙ ap (then _ (around (e .at))) (leaves-some (model.around (positionOf (e .at))) rest none (omega (arith, left-count))))
+        (link-same rest none (u .is) at-link ∙ ap (then _ (around (e .at))) (leaves-some (model.around (positionOf (e .at))) rest none (omega (arith, left-count (k .K) e (w .dock .records) packets))))
         (shows (record { taken = refl; kind = u .kind; counted = u .counted; is = ap (λ (l : List Words). model.busy l link none) (sym link-left) }))
         (λ b. keep-begun theLink (u .taken))
         (stored-is (model.busy rest link none) (u .is)) (k .places))
@@ -417,7 +409,7 @@ module _ (w : World) (h : Sound (w .dock)) (k : Kept w) where
     opens-off = doing-of m (k .inv) (u .is) .off-link
 
     some-left : now < count
-    some-left = omega (arith, left-count, ap length (u .left-are))
+    some-left = omega (arith, left-count (k .K) e (w .dock .records) packets, ap length (u .left-are))
 
     -- The first of the TRBs of a control request is its setup.
     first-is : trbOf e v packets now ≡ setupTrb v

@@ -11,7 +11,7 @@ use lib.ListN.{length}
 use Rattle.base.specs.First.{pick}
 use Rattle.base.proofs.Compare.{same-or-not, lt-or-le}
 use Rattle.trb.specs.declared.Trb.{Trb}
-use Rattle.table.specs.Records.{control}
+use Rattle.table.specs.Records.{control, recordAt}
 use Rattle.table.specs.declared.records.Record.{Record}
 use Rattle.dock.specs.declared.Endpoint.{Endpoint}
 use Rattle.dock.specs.Fit.{Next, theLink, theTrb, theSetup, nextOf, isNone}
@@ -19,12 +19,18 @@ use Rattle.dock.specs.Fit as fit
 use Rattle.dock.specs.Store.{stepped}
 use Rattle.dock.specs.Stores.{trbCount, trbOf}
 use Rattle.dock.proofs.NextLaws.{is-next}
-use Rattle.promise.proofs.Kept.{upcoming}
+use Rattle.promise.proofs.Kept.{upcoming, left}
+use Rattle.promise.proofs.Laid.{bared-length}
 
 pub upcoming-length : (n : ℕ) (e : Endpoint) (v : Record) (packets : List ℕ) → length (upcoming n e v packets) ≡ n
 unfolding upcoming
 upcoming-length zero e v packets = refl
 upcoming-length (suc n) e v packets = ap suc (upcoming-length n (stepped theTrb e v packets) v packets)
+
+pub left-count : (K : ℕ) (e : Endpoint) (records packets : List ℕ) → length (left K e records packets) ≡ trbCount (recordAt records (e .work .number)) - e .work .stored
+left-count K e records packets =
+    let v = recordAt records (e .work .number) in
+    bared-length (upcoming (trbCount v - e .work .stored) e v packets) ∙ upcoming-length (trbCount v - e .work .stored) e v packets
 
 -- What the TRBs of a submission go by, of the endpoint.
 pub record Alike (a b : Endpoint) : Type 0 where
