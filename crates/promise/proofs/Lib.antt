@@ -15,4 +15,5 @@ pub mod Stored
 pub mod Reach
 pub mod Order
 pub mod Grounds
+pub mod Whole
 pub mod Example

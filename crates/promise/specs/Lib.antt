@@ -2,3 +2,4 @@
 pub mod Controller
 pub mod Requested
 pub mod Run
+pub mod Whole
