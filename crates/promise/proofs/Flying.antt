@@ -151,6 +151,7 @@ idle-changes w k e records packets i s = record {
   K = k .K;
   some-slot = k .some-slot;
   shape = rw (i .shape) (k .shape);
+  link-slot = rw (i .shape) (k .link-slot);
   before = k .before;
   work = k .work;
   inv = rw (i .at, i .account) (k .inv);

@@ -160,6 +160,7 @@ module _ (w : World) (event : Words) (n : ℕ) (h : Sound (w .dock)) (k : Kept w
         K = k .K;
         some-slot = k .some-slot;
         shape = k .shape;
+        link-slot = k .link-slot;
         before = k .before;
         work = k .work;
         inv = k .inv;

@@ -11,7 +11,8 @@ use lib.Dec.{eqb}
 use lib.ListN.{length}
 use Rattle.base.specs.First.{pick}
 use Rattle.ids.specs.Free.{recordCount}
-use Rattle.trb.specs.Cycle.{Pointer}
+use Rattle.trb.specs.Cycle.{Pointer, typeOf}
+use Rattle.trb.specs.Layouts.{wordsOf, wordsAt}
 use Rattle.trb.specs.declared.Trb.{Trb}
 use Rattle.trb.specs.declared.Words.{Words}
 use Rattle.ring.specs.Ring.{linkTrb}
@@ -63,6 +64,10 @@ abbrev pub modelIn : (K : ℕ) → World → ℕ → model.Work (flat K) → mod
 modelIn K w before work =
     let e = w .dock .endpoint in
     modelOf K (w .dock .ring) (e .at) (w .controller) (w .consumed) (w .trbs) (e .account .outstanding) before work
+
+-- If a link stands in slot L-1, it is the ring's own: it leads to slot 0 and toggles.
+abbrev pub LinkSlot : (K base : ℕ) → List ℕ → Type 0
+LinkSlot K base ring = typeOf (wordsAt ring K) ≡ 6 → (c : Bool) × (wordsAt ring K ≡ wordsOf (linkTrb base false) c)
 
 -- ---- the submission under way
 
@@ -181,6 +186,7 @@ pub record Kept (w : World) : Type 0 where
   pub K : ℕ
   pub some-slot : 2 ≤ K
   pub shape : slots w ≡ suc K
+  pub link-slot : LinkSlot K (w .dock .endpoint .shape .base) (w .dock .ring)
   pub before : ℕ
   pub work : model.Work (flat K)
   pub inv : Inv (modelIn K w before work)

@@ -16,4 +16,5 @@ pub mod Reach
 pub mod Order
 pub mod Grounds
 pub mod Whole
+pub mod Standard
 pub mod Example

@@ -9,6 +9,8 @@ use borrow.Author.Tests.{not-false}
 use lib.ListN.{length, getD, replicate}
 use Rattle.base.proofs.Compare.{same-or-not}
 use Rattle.mask.proofs.BitLaws.{bit-none}
+use Rattle.trb.specs.Cycle.{typeOf}
+use Rattle.trb.specs.Layouts.{wordsAt}
 use Rattle.trb.specs.declared.Words.{Words}
 use Rattle.table.specs.Finished.{finishedAt}
 use Rattle.table.specs.declared.finished.Finished.the-variants.{Nothing, Event}
@@ -38,6 +40,11 @@ empty : (n i : ℕ) → finishedAt (replicate n 0) i ≡ Nothing
 unfolding finishedAt
 empty n i = rw (getD-zeros n (4 * i + 3))
 
+-- and a slot of zeros is no link.
+zero-type : (n i : ℕ) → typeOf (wordsAt (replicate n 0) i) ≡ 0
+unfolding typeOf wordsAt
+zero-type n i = rw (getD-zeros n (4 * i + 3))
+
 pub never-event : (event : Words) → Nothing ≡ Event event → ⊥
 never-event event e = let z : _≡_ {A = ℕ} 0 1 = cc in omega arith
 
@@ -57,6 +64,7 @@ module _ (ring finished records packets : List ℕ) (slots base mask slot dci : 
         K = K;
         some-slot = omega (arith, limits .slots-least);
         shape = omega (arith, limits .slots-least);
+        link-slot = λ t. absurd (omega (arith, sym (zero-type (length ring) K) ∙ t));
         before = 0;
         work = idle;
         inv = rw long (made-keeps {S = flat K} (omega (arith, limits .slots-least)) (replicate (4 * suc K) 0) (zeroed K));

@@ -154,6 +154,7 @@ module _ (w : World) (h : Sound (w .dock)) (k : Kept w) (id : ℕ) where
         K = K;
         some-slot = k .some-slot;
         shape = k .shape;
+        link-slot = k .link-slot;
         before = k .before;
         work = k .work;
         inv = free-keeps some-place s (k .inv) part may;

@@ -286,6 +286,7 @@ module _ (w : World) (request : Request) (lengths : List ℕ) (h : Sound (w .doc
         K = K;
         some-slot = k .some-slot;
         shape = k .shape;
+        link-slot = k .link-slot;
         before = before;
         work = starts td (deferred request);
         inv = subst (λ (x : model.State (flat K)). Inv x) same inv;

@@ -61,6 +61,7 @@ stepped-kept w k =
       K = k .K;
       some-slot = k .some-slot;
       shape = k .shape;
+      link-slot = k .link-slot;
       before = k .before;
       work = k .work;
       inv = subst (λ (x : model.State (flat (k .K))). Inv x) same (step-keeps some s (k .inv));

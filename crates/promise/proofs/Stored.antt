@@ -12,10 +12,12 @@ use lib.Dec.{eqb}
 use lib.ListN.{length}
 use Rattle.base.specs.First.{pick}
 use Rattle.base.proofs.Compare.{same-or-not, lt-or-le}
+use Rattle.trb.specs.Layouts.{wordsOf, wordsAt}
 use Rattle.trb.specs.declared.Trb.{Trb}
 use Rattle.trb.specs.declared.Words.{Words}
 use Rattle.ring.specs.Ring.{storeAt, onward, around, linkTrb}
 use Rattle.ring.specs.declared.Position.{Position}
+use Rattle.ring.proofs.RuleLaws.{store-same, store-other}
 use Rattle.table.specs.Finished.{finishedAt, clearPlace}
 use Rattle.table.specs.Records.{control, recordAt}
 use Rattle.table.specs.declared.finished.Finished.the-variants.{Nothing, Event}
@@ -37,7 +39,7 @@ use Rattle.order.proofs.Moves.{Inv, store-keeps, doing-of, pending, pending-lea
 use Rattle.order.proofs.Numbers.{Numbered, store-numbered}
 use Rattle.promise.specs.Run.{World, withDock}
 use Rattle.promise.proofs.Awaited.{next-at}
-use Rattle.promise.proofs.Kept.{positionOf, modelOf, modelIn, upcoming, linkWords, left, setupAt, Rests, Opens, Shows, Hides, Under, rests, opens, shows, hides, Begun, Latest, Places, Kept}
+use Rattle.promise.proofs.Kept.{positionOf, modelOf, modelIn, upcoming, LinkSlot, linkWords, left, setupAt, Rests, Opens, Shows, Hides, Under, rests, opens, shows, hides, Begun, Latest, Places, Kept}
 use Rattle.promise.proofs.Laid.{bare, bared, bared-length, store-is}
 use Rattle.promise.proofs.Made.{never-event}
 use Rattle.promise.proofs.Upcoming.{upcoming-length, left-count, same-upcoming, goes-on, ends-here}
@@ -91,15 +93,16 @@ module _ (w : World) (h : Sound (w .dock)) (k : Kept w) where
   then ring at work = modelOf (k .K) ring at (w .controller) (w .consumed) (w .trbs) (e .account .outstanding) (k .before) work
 
   next-kept : (after : Endpoint) (ring finished : List ℕ) (work : model.Work (flat (k .K))) (stored : ℕ)
-      → after .shape ≡ e .shape → after .account ≡ e .account → model.store m ≡ then ring (after .at) work
+      → after .shape ≡ e .shape → after .account ≡ e .account → LinkSlot (k .K) (e .shape .base) ring → model.store m ≡ then ring (after .at) work
       → Under (k .K) after (w .dock .records) packets (w .first (after .work .number)) (k .before) work
       → (after .work .busy ≡ true → Begun (k .K) after (w .dock .records) (w .first) (length (w .trbs)))
       → stored + length (pending work) ≡ length (w .trbs) → Places (k .K) finished stored (w .heard)
       → Kept (withDock w (stateOf after ring finished (w .dock .records) packets))
-  next-kept after ring finished work stored shape account same under begun split places = record {
+  next-kept after ring finished work stored shape account linked same under begun split places = record {
     K = k .K;
     some-slot = k .some-slot;
     shape = rw shape (k .shape);
+    link-slot = rw shape linked;
     before = k .before;
     work = work;
     inv = rw account (subst (λ (x : model.State (flat (k .K))). Inv x) same (store-keeps some-place m (k .inv)));
@@ -173,6 +176,25 @@ module _ (w : World) (h : Sound (w .dock)) (k : Kept w) where
       → settled (stepped n e v packets) v ≡ moved (stepped n e v packets) (stepped n e v packets .at) (stepped n e v packets .periodic .frame) idle
   unfolding settled
   is-over n q = rw q
+
+  -- ---- the link's slot
+
+  link-as-was : (place : ℕ) (t : Trb) (c : Bool) → 4 * place + 4 ≤ length (w .dock .ring) → (place ≡ k .K → ⊥) → LinkSlot (k .K) (e .shape .base) (storeAt (w .dock .ring) place t c)
+  link-as-was place t c room off = rw (store-other (w .dock .ring) place t c room (k .K) (λ q. off (sym q))) (k .link-slot)
+
+  off-link : (e .at .place ≡ k .K → ⊥) → LinkSlot (k .K) (e .shape .base) (ringStored theTrb e v packets (w .dock .ring))
+  unfolding ringStored
+  off-link off = link-as-was (e .at .place) (trbOf e v packets (e .work .stored)) (firstCycle e v) ring-room off
+
+  off-setup : e .work .place + 1 < e .shape .slots → LinkSlot (k .K) (e .shape .base) (ringStored theSetup e v packets (w .dock .ring))
+  unfolding ringStored
+  off-setup low = link-as-was (e .work .place) (setupTrb v) (e .work .cycle) (omega (arith, h .ringLong)) (λ q. omega (arith, k .shape))
+
+  own-link : e .at .place ≡ k .K → LinkSlot (k .K) (e .shape .base) (ringStored theLink e v packets (w .dock .ring))
+  unfolding ringStored
+  own-link at-link t =
+      (e .at .cycle, subst (λ (i : ℕ). wordsAt (storeAt (w .dock .ring) (e .at .place) (linkTrb (e .shape .base) false) (e .at .cycle)) i ≡ wordsOf (linkTrb (e .shape .base) false) (e .at .cycle)) at-link
+      (store-same (w .dock .ring) (e .at .place) (linkTrb (e .shape .base) false) (e .at .cycle) ring-room))
 
   -- ---- the stores of the model
 
@@ -264,7 +286,7 @@ module _ (w : World) (h : Sound (w .dock)) (k : Kept w) where
         let on = keeps-on theLink (goes-on (stepped theLink e v packets) v (inr (inl more))) in
         let rest = left (k .K) e (w .dock .records) packets in
         rw on
-        (next-kept (stepped theLink e v packets) _ (w .dock .finished) (model.busy rest link none) (k .stored) refl refl
+        (next-kept (stepped theLink e v packets) _ (w .dock .finished) (model.busy rest link none) (k .stored) refl refl (own-link at-link)
         (link-same rest none (u .is) at-link ∙ ap (then _ (around (e .at))) (leaves-some (model.around (positionOf (e .at))) rest none (omega (arith, left-count (k .K) e (w .dock .records) packets))))
         (shows (record { taken = refl; kind = u .kind; counted = u .counted; is = ap (λ (l : List Words). model.busy l link none) (sym link-left) }))
         (λ b. keep-begun theLink (u .taken))
@@ -279,7 +301,7 @@ module _ (w : World) (h : Sound (w .dock)) (k : Kept w) where
         let none-more = none-left all in
         let is : k .work ≡ model.busy [] link none = u .is ∙ ap (λ (l : List Words). model.busy l link none) none-more in
         rw over
-        (next-kept _ _ (w .dock .finished) model.idle (k .stored) refl refl
+        (next-kept _ _ (w .dock .finished) model.idle (k .stored) refl refl (own-link at-link)
         (link-same [] none is at-link ∙ ap (then _ (around (e .at))) (leaves-none (model.around (positionOf (e .at))) (λ (q : 0 ≡ k .K). omega (arith, k .some-slot))))
         (rests (record { free = refl; is = refl }))
         (λ b. absurd (false≢true b))
@@ -298,7 +320,7 @@ module _ (w : World) (h : Sound (w .dock)) (k : Kept w) where
         let on = keeps-on theTrb (goes-on (stepped theTrb e v packets) v (inr (inl more))) in
         let is = next-work (omega arith) in
         rw on
-        (next-kept (stepped theTrb e v packets) _ _ (model.busy behind link none) (suc (k .stored)) refl refl
+        (next-kept (stepped theTrb e v packets) _ _ (model.busy behind link none) (suc (k .stored)) refl refl (off-link off)
         (trb-same behind none is off current ∙ ap (then _ (onward (e .at))) (leaves-some (model.advance (positionOf (e .at))) behind none (omega (arith, behind-count))))
         (shows (record { taken = refl; kind = u .kind; counted = omega arith; is = refl }))
         (λ b. keep-begun theTrb (u .taken))
@@ -316,7 +338,7 @@ module _ (w : World) (h : Sound (w .dock)) (k : Kept w) where
         let is = next-work (omega arith) in
         let none-more = no-more all in
         rw on
-        (next-kept (stepped theTrb e v packets) _ _ (model.busy behind link none) (suc (k .stored)) refl refl
+        (next-kept (stepped theTrb e v packets) _ _ (model.busy behind link none) (suc (k .stored)) refl refl (off-link off)
         (trb-same behind none is off current
         ∙ ap (then _ (onward (e .at)))
         (ap (λ (l : List Words). model.leaves (model.advance (positionOf (e .at))) l link none) none-more
@@ -334,7 +356,7 @@ module _ (w : World) (h : Sound (w .dock)) (k : Kept w) where
         let is = next-work (omega arith) in
         let none-more = no-more all in
         rw over
-        (next-kept _ _ _ model.idle (suc (k .stored)) refl refl
+        (next-kept _ _ _ model.idle (suc (k .stored)) refl refl (off-link off)
         (trb-same behind none is off current
         ∙ ap (then _ (onward (e .at)))
         (ap (λ (l : List Words). model.leaves (model.advance (positionOf (e .at))) l link none) none-more
@@ -359,7 +381,7 @@ module _ (w : World) (h : Sound (w .dock)) (k : Kept w) where
         let on = keeps-on theLink (goes-on (stepped theLink e v packets) v (inr to-come)) in
         let rest = left (k .K) e (w .dock .records) packets in
         rw on
-        (next-kept (stepped theLink e v packets) _ (w .dock .finished) (model.busy rest link (some again)) (k .stored) refl refl
+        (next-kept (stepped theLink e v packets) _ (w .dock .finished) (model.busy rest link (some again)) (k .stored) refl refl (own-link at-link)
         (link-same rest (some again) (u .is) at-link ∙ ap (then _ (around (e .at))) (leaves-again (model.around (positionOf (e .at))) rest again))
         (hides (record {
           taken = refl;
@@ -380,7 +402,7 @@ module _ (w : World) (h : Sound (w .dock)) (k : Kept w) where
         (inr (⊎-elim (λ (l : now + 1 < count). inl l) (λ (l : count ≤ now + 1). inr (u .kind, omega arith)) (lt-or-le (now + 1) count)))) in
         let is : k .work ≡ model.busy (bare (trbOf e v packets now) ∷ behind) link (some again) = u .is ∙ ap (λ (l : List Words). model.busy l link (some again)) (next-left more) in
         rw on
-        (next-kept (stepped theTrb e v packets) _ _ (model.busy behind link (some again)) (suc (k .stored)) refl refl
+        (next-kept (stepped theTrb e v packets) _ _ (model.busy behind link (some again)) (suc (k .stored)) refl refl (off-link off)
         (trb-same behind (some again) is off (trb-current e v (λ q. omega (arith, q .1, u .some-stored)))
         ∙ ap (then _ (onward (e .at))) (leaves-again (model.advance (positionOf (e .at))) behind again))
         (hides (record { taken = refl; kind = u .kind; some-stored = omega arith; counted = omega arith; marked = u .marked; is = refl }))
@@ -394,7 +416,7 @@ module _ (w : World) (h : Sound (w .dock)) (k : Kept w) where
         let over = is-over theSetup (ends-here (stepped theSetup e v packets) v (λ q. off (omega (arith, k .shape))) (omega arith) (λ q. omega (arith, q .1))) in
         let is : k .work ≡ model.busy [] link (some again) = u .is ∙ ap (λ (l : List Words). model.busy l link (some again)) (none-left all) in
         rw over
-        (next-kept _ _ (w .dock .finished) model.idle (k .stored) refl refl
+        (next-kept _ _ (w .dock .finished) model.idle (k .stored) refl refl (off-setup low)
         (store-by (model.busy [] link (some again)) false is (ne-eqb _ _ off)
         ∙ put-is (e .work .place) (setCycle (e .work .cycle) (bare (setupTrb v))) (positionOf (e .at)) model.idle
         (storeAt (w .dock .ring) (e .work .place) (setupTrb v) (e .work .cycle)) (e .at)
@@ -449,7 +471,7 @@ module _ (w : World) (h : Sound (w .dock)) (k : Kept w) where
         let on = keeps-on theTrb (goes-on (stepped theTrb e v packets) v
         (inr (⊎-elim (λ (l : now + 1 < count). inl l) (λ (l : count ≤ now + 1). inr (u .kind, omega (arith, some-left))) (lt-or-le (now + 1) count)))) in
         rw on
-        (next-kept (stepped theTrb e v packets) _ _ (model.busy behind link (some setup-again)) (suc (k .stored)) refl refl opens-same
+        (next-kept (stepped theTrb e v packets) _ _ (model.busy behind link (some setup-again)) (suc (k .stored)) refl refl (off-link opens-off) opens-same
         (hides (record { taken = refl; kind = u .kind; some-stored = omega arith; counted = omega (arith, some-left); marked = u .marked; is = refl }))
         (λ b. keep-begun theTrb (u .taken))
         (omega (arith, stored-is _ (u .is), ap length others-are)) (cleared-places opens-off))
