@@ -1,12 +1,12 @@
 -- The TRBs that the stores of an admitted submission store, by the definition of a store, are those of the request, by the layouts: computed from the
 -- record and the packets that the start has written, they are `trbsOf` of the request. None of them is a link. Assumes nothing.
-use Prim.Native.Nat.{ℕ, zero, suc, _+_, _-_, _*_, _/_, _%_, _^_, _<_, _≤_, max, min}
+use Prim.Native.Nat.{ℕ, zero, suc, _+_, _*_, _/_, _%_, _^_, _<_, _≤_, max}
 use mathlib.Core.Bool.{Bool, true, false, not, _&&_}
 use mathlib.Core.List.{List, [], _∷_}
 use mathlib.Core.Logic.{_⊎_, inl, inr, ⊎-elim}
 use mathlib.Core.Path.{_≡_, refl, sym, ap, ap₂, _∙_}
 use native.Mathlib.Omega.{arith}
-use borrow.Author.Tests.{eq-eqb, ne-eqb, eqb-true, eqb-false, lt-ltb}
+use borrow.Author.Tests.{eq-eqb, ne-eqb, lt-ltb}
 use lib.Dec.{eqb, ltb}
 use lib.ListN.{length, getD}
 use Rattle.base.specs.First.{pick}
@@ -15,9 +15,9 @@ use Rattle.base.proofs.Compare.{lt-or-le, same-or-not}
 use Rattle.base.proofs.Decide.{by-ltb, both}
 use Rattle.trb.specs.Bursts.{burstsOf}
 use Rattle.trb.specs.Cycle.{typeOf}
-use Rattle.trb.specs.Layouts.{wordsOf, kindOf}
+use Rattle.trb.specs.Layouts.{kindOf}
 use Rattle.trb.specs.declared.Trb.{Trb}
-use Rattle.trb.specs.declared.Trb.the-variants.{Normal, Setup, Data, Status, Isoch}
+use Rattle.trb.specs.declared.Trb.the-variants.{Setup, Status, Isoch}
 use Rattle.trb.proofs.LayoutLaws.{type-is}
 use Rattle.ids.specs.Free.{recordCount}
 use Rattle.ring.specs.Ring.{linkTrb}
@@ -33,7 +33,7 @@ use Rattle.dock.specs.Limits.{packetsSize}
 use Rattle.dock.specs.Requests.{bufferOf, required, recordFor}
 use Rattle.dock.specs.Start.{tooLong, atLeastOne, writePackets}
 use Rattle.dock.specs.Store.{stepped}
-use Rattle.dock.specs.Stores.{trbCount, field17, transferType, setupTrb, trbOf}
+use Rattle.dock.specs.Stores.{trbCount, trbOf}
 use Rattle.dock.proofs.AskedLaws.{packet-short, packet-written}
 use Rattle.dock.proofs.RetireLaws.{picked}
 use Rattle.dock.proofs.StartedLaws.{count-is}

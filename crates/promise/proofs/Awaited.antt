@@ -1,14 +1,12 @@
 -- The TRBs behind the last one that an event came for are those of requests in flight: so they are at most as many as are outstanding, which is at most
 -- L-2. And TRB number n, once consumed, was consumed at the slot of number n. Assumes nothing.
 use Prim.Native.Nat.{ℕ, zero, suc, _+_, _<_, _≤_}
-use mathlib.Core.Bool.{true}
 use mathlib.Core.List.{List, [], _∷_, _++_}
 use mathlib.Core.Path.{_≡_, refl, sym, ap, _∙_}
 use native.Mathlib.Nat.{add-zero, add-suc, suc-add}
 use native.Mathlib.Omega.{arith}
 use lib.ListN.{length, length-append}
 use Rattle.ids.specs.Free.{recordCount}
-use Rattle.mask.specs.Bit.{sum}
 use Rattle.trb.specs.declared.Words.{Words}
 use Rattle.dock.proofs.BooksLaws.{by-flies, part-flies}
 use Rattle.dock.proofs.Reached.{flightPart, flightSum, Sound}
@@ -22,7 +20,7 @@ use Rattle.promise.specs.Controller.{Entry}
 use Rattle.promise.specs.Run.{World, slotAt}
 use Rattle.promise.proofs.Counting.{covered}
 use Rattle.promise.proofs.Laid.{bared, bared-length}
-use Rattle.promise.proofs.Kept.{positionOf, modelIn, Kept, Owner, Flights}
+use Rattle.promise.proofs.Kept.{positionOf, modelIn, Kept, Flights}
 
 -- ---- how many wait for an event
 

@@ -1,9 +1,7 @@
 -- If every number from a to b - 1 lies in the range of some of n records, the sizes of those ranges add up to b - a at least. Assumes nothing.
 use Prim.Native.Nat.{ℕ, zero, suc, _+_, _-_, _≤_, _<_, min, max}
-use mathlib.Core.Logic.{⊎-elim}
-use mathlib.Core.Path.{_≡_, refl}
+use mathlib.Core.Path.{_≡_}
 use native.Mathlib.Omega.{arith}
-use Rattle.base.proofs.Compare.{same-or-not}
 use Rattle.mask.specs.Bit.{sum}
 use Rattle.mask.proofs.SumLaws.{sum-mono, sum-less}
 

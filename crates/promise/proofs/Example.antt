@@ -1,19 +1,16 @@
 -- The premises can be met, and the definitions compute: a run of 33 moves on a ring of 5 slots at 10000. Three bulk requests come and go; then the
 -- control request of document 01's W10, across the ring's end, with the controller stepping between its stores; a configuring and an event that is handed
 -- over too early are refused meanwhile; and it is reclaimed. At the end the six TRBs that are consumed are the six that are admitted. Assumes nothing.
-use Prim.Native.Nat.{ℕ, zero, suc, _+_, _-_, _*_, _/_, _%_, _^_}
-use mathlib.Core.Bool.{Bool, true, false, not, _&&_, _||_, and-eq-true-iff}
+use Prim.Native.Nat.{ℕ, _+_, _*_}
+use mathlib.Core.Bool.{Bool, true, false, and-eq-true-iff}
 use mathlib.Core.List.{List, [], _∷_, _++_}
-use mathlib.Core.Path.{_≡_, refl, subst, sym}
-use lib.Dec.{eqb}
-use lib.ListN.{length, replicate}
-use lib.Seq.{paste}
+use mathlib.Core.Path.{_≡_, refl}
+use lib.ListN.{replicate}
 use Rattle.base.specs.Part.{put}
 use Rattle.mask.specs.Bit.{bit}
 use Rattle.mask.specs.Compute.{lowestClear, clearFrom, setBit, clearBit}
 use Rattle.ids.specs.Free.{freeId, freeFrom, heldBy, any}
 use Rattle.ids.specs.Lookup.{findFrom, findId}
-use Rattle.trb.specs.Bursts.{burstsOf, packetsOf}
 use Rattle.trb.specs.Cycle.{owned, typeOf}
 use Rattle.trb.specs.Cycle as cycle
 use Rattle.trb.specs.Layouts.{wordsOf, wordsAt, putWords}
@@ -22,8 +19,6 @@ use Rattle.ring.specs.Ring.{storeAt, isSlot, slotOf}
 use Rattle.table.specs.Finished.{finishedAt, fillPlace}
 use Rattle.table.specs.Packets.{packetAt, putPacket}
 use Rattle.table.specs.Records.{recordAt, setWord}
-use Rattle.dock.specs.declared.Outcome.the-variants.{Done}
-use Rattle.dock.specs.declared.Request.{Request}
 use Rattle.dock.specs.declared.Request.the-variants.{Control, Bulk}
 use Rattle.dock.specs.Cancel.{cancel, cancelNo, cancelTests}
 use Rattle.dock.specs.Configure.{configure, plainNo, plainTests}
@@ -37,8 +32,7 @@ use Rattle.dock.specs.Store.{store, storeNo, storeTests, stepped, slotStored, r
 use Rattle.dock.specs.Stores.{trbOf, trbCount}
 use Rattle.dock.specs.Worth.{accepted}
 use Rattle.promise.specs.Controller.{Entry, does}
-use Rattle.promise.specs.Requested.{laidOut}
-use Rattle.promise.specs.Run.{World, fromMaking, madeOf, admitted, Move, configures, starts, stores, hands, reclaims, cancels, steps, act, may, admits, takes, isFor, started, handed, play, allowed, Run, made, andThen}
+use Rattle.promise.specs.Run.{World, fromMaking, madeOf, admitted, Move, configures, starts, stores, hands, reclaims, steps, act, may, admits, takes, isFor, started, handed, play, allowed, Run, made, andThen}
 use Rattle.promise.specs.Run as running
 
 -- A Success event for the TRB at a slot.

@@ -1,13 +1,12 @@
 -- The records in flight, where words of records change that say nothing of a request's TRBs, and where a record whose TRBs have all been passed by an event
 -- is freed. A change of nothing but such words, with no submission under way, keeps the invariant (`idle-changes`): a configuring and a cancel are such
 -- changes. Assumes nothing.
-use Prim.Native.Nat.{ℕ, zero, suc, _+_, _*_, _<_, _≤_}
-use mathlib.Core.Bool.{Bool, true, false, false≢true}
+use Prim.Native.Nat.{ℕ, _+_, _<_, _≤_}
+use mathlib.Core.Bool.{true, false, false≢true}
 use mathlib.Core.List.{List}
 use mathlib.Core.Logic.{⊎-elim}
 use mathlib.Core.Path.{_≡_, refl, sym, ap, _∙_, subst}
 use native.Mathlib.Omega.{arith}
-use borrow.Author.Tests.{eqb-true, eqb-false}
 use lib.Dec.{eqb}
 use lib.ListN.{length}
 use Rattle.base.specs.First.{pick}
@@ -17,24 +16,22 @@ use Rattle.ids.specs.Free.{recordWords, recordCount}
 use Rattle.ids.specs.Lookup.{findIn}
 use Rattle.ids.specs.declared.Lookup.{Lookup}
 use Rattle.ids.specs.declared.Lookup.the-variants as lookup
-use Rattle.ids.proofs.AnyLaws.{true-or-false}
 use Rattle.mask.specs.Compute.{clearBit}
 use Rattle.table.specs.Records.{cancelledWord, recordedWord, recordAt, setWord}
-use Rattle.table.specs.declared.records.Record.{Record}
 use Rattle.table.proofs.RecordLaws.{word-kept}
 use Rattle.dock.specs.declared.Account.{Account}
 use Rattle.dock.specs.declared.Endpoint.{Endpoint}
-use Rattle.dock.specs.Cancel.{marked, cancel, cancelNo, cancelTests}
-use Rattle.dock.specs.Configure.{configure, plainNo, plainTests}
+use Rattle.dock.specs.Cancel.{marked, cancelNo, cancelTests}
+use Rattle.dock.specs.Configure.{plainNo, plainTests}
 use Rattle.dock.specs.Fit.{flies}
 use Rattle.dock.proofs.BooksLaws.{by-flies, Alike, alike-same, alike-set, flies-alike, still-held, freed-other}
 use Rattle.dock.proofs.InvariantLaws.{marked-alike}
 use Rattle.dock.proofs.NothingLaws.{RecordsAfter}
-use Rattle.dock.proofs.Reached.{State, stateOf, afterConfigure, afterCancel}
+use Rattle.dock.proofs.Reached.{stateOf, afterConfigure, afterCancel}
 use Rattle.dock.proofs.RefusalLaws.{plain-exact, configure-acts, configure-refuses, cancel-exact, cancel-acts, cancel-refuses}
 use Rattle.promise.specs.Run.{World, withDock}
 use Rattle.promise.proofs.Handed.{idle-kept}
-use Rattle.promise.proofs.Kept.{Kept, Under, rests, Counts, Holds, Owner, Flights}
+use Rattle.promise.proofs.Kept.{Kept, rests, Holds, Owner, Flights}
 
 -- ---- words that say nothing of a request's TRBs
 

@@ -4,26 +4,24 @@
 --   `not-overwritten`: no store overwrites a TRB that is not consumed, but the setup's second store, which stores the same TRB again.
 --   `event-latest`: the event in a finished place is of the latest TRB stored there, and that one is consumed.
 -- Assumes nothing.
-use Prim.Native.Nat.{ℕ, zero, suc, _+_, _-_, _%_, _<_, _≤_}
+use Prim.Native.Nat.{ℕ, _+_, _-_, _<_, _≤_}
 use mathlib.Core.Bool.{Bool, true, false, false≢true}
-use mathlib.Core.List.{List, [], _∷_}
+use mathlib.Core.List.{List}
 use mathlib.Core.Logic.{_⊎_, inl, inr, ⊎-elim}
 use mathlib.Core.Path.{_≡_, refl, sym, ap, _∙_, subst}
 use native.Mathlib.Omega.{arith}
-use borrow.Author.Tests.{eqb-true}
 use lib.Dec.{eqb}
 use lib.ListN.{length, take, length-append, length-take}
 use Rattle.base.specs.First.{pick}
 use Rattle.base.proofs.Compare.{same-or-not, lt-or-le, compared}
 use Rattle.base.proofs.Decide.{if-so}
-use Rattle.ids.specs.Free.{recordCount}
 use Rattle.ids.specs.Lookup.{findIn}
 use Rattle.ids.proofs.AnyLaws.{true-or-false}
 use Rattle.mask.specs.Bit.{bit}
 use Rattle.mask.specs.Compute.{clearBit}
 use Rattle.trb.specs.declared.Words.{Words}
 use Rattle.table.specs.Finished.{finishedAt}
-use Rattle.table.specs.Records.{control, recordAt}
+use Rattle.table.specs.Records.{recordAt}
 use Rattle.table.specs.declared.finished.Finished.the-variants.{Event}
 use Rattle.table.specs.declared.records.Record.{Record}
 use Rattle.dock.specs.declared.Account.{Account}
@@ -34,19 +32,19 @@ use Rattle.dock.specs.declared.ReclaimedOne.{ReclaimedOne}
 use Rattle.dock.specs.declared.Request.{Request}
 use Rattle.dock.specs.Cancel.{cancel, cancelNo}
 use Rattle.dock.specs.Configure.{configure, plainNo}
-use Rattle.dock.specs.Fit.{flies, Next, theLink, theTrb, theSetup, nextOf, isNone}
+use Rattle.dock.specs.Fit.{flies, Next, theLink, theTrb, theSetup, isNone}
 use Rattle.dock.specs.Fit as fit
 use Rattle.dock.specs.Reclaim.{codeOf, leave, nothing, reclaim}
 use Rattle.dock.specs.Start.{recordTaken, startNo, startedEndpoint, startedRecords}
 use Rattle.dock.specs.Store.{slotStored, storeNo}
 use Rattle.dock.specs.Stores.{trbCount}
 use Rattle.dock.specs.Worth.{accepted}
-use Rattle.dock.proofs.BooksLaws.{by-flies, Alike, flies-alike, freed-other}
+use Rattle.dock.proofs.BooksLaws.{by-flies, flies-alike, freed-other}
 use Rattle.dock.proofs.FitLaws.{store-number}
 use Rattle.dock.proofs.InvariantLaws.{Untouched, Looked, reclaim-result, marked-alike}
 use Rattle.dock.proofs.NextLaws.{because, store-admitted}
 use Rattle.dock.proofs.OnceLaws.{outstanding-is-sum}
-use Rattle.dock.proofs.Reached.{State, Sound, flightPart, flightSum, afterReclaim, afterStart, afterStore, afterCancel}
+use Rattle.dock.proofs.Reached.{Sound, flightPart, flightSum, afterReclaim, afterStart, afterStore, afterCancel}
 use Rattle.dock.proofs.ReclaimLaws.{Left}
 use Rattle.dock.proofs.RefusalLaws.{start-acts, start-refuses, store-refuses}
 use Rattle.dock.proofs.RetireLaws.{picked}
@@ -54,15 +52,14 @@ use Rattle.dock.proofs.StartLaws.{record-free, record-taken, records-kept}
 use Rattle.dock.proofs.StepLaws.{store-keeps}
 use Rattle.dock.proofs.StoreLaws.{nextStore, slotChanged}
 use Rattle.order.specs.Flat.{flat}
-use Rattle.order.specs.Model as model
 use Rattle.order.proofs.Index.{pos, slot-lt, distinct}
 use Rattle.order.proofs.Moves.{pending, waiting, length-layout}
 use Rattle.order.proofs.Order.{Front}
 use Rattle.promise.specs.Requested.{slotOf}
 use Rattle.promise.specs.Run.{World, slots, admitted, storedCount, recordUnderWay, firstUnderWay, admits, started, handed, stepped, Move, configures, starts, stores, hands, reclaims, cancels, steps, act, Run}
 use Rattle.promise.proofs.Awaited.{next-at}
-use Rattle.promise.proofs.Handed.{all-stored, idle-kept}
-use Rattle.promise.proofs.Kept.{modelIn, left, Under, rests, opens, shows, hides, Latest, Kept}
+use Rattle.promise.proofs.Handed.{all-stored}
+use Rattle.promise.proofs.Kept.{modelIn, Under, rests, opens, shows, hides, Kept}
 use Rattle.promise.proofs.Laid.{bared, bared-length}
 use Rattle.promise.proofs.Order.{control-unseen}
 use Rattle.promise.proofs.Reach.{run-reached, run-sound, run-kept}

@@ -1,17 +1,16 @@
 -- An event that is handed over keeps the invariant. It is for a TRB that no event has passed, so that TRB is the last that was stored in its slot: fewer
 -- than L-1 were stored after the last one that an event came for. Assumes nothing.
-use Prim.Native.Nat.{ℕ, zero, suc, _+_, _-_, _*_, _/_, _%_, _^_, _<_, _≤_}
-use mathlib.Core.Bool.{Bool, true, false, not, _&&_, _||_, false≢true}
-use mathlib.Core.List.{List, [], _∷_}
-use mathlib.Core.Logic.{_⊎_, inl, inr, ⊎-elim}
+use Prim.Native.Nat.{ℕ, suc, _+_, _*_, _<_, _≤_}
+use mathlib.Core.Bool.{true, false, not, _||_, false≢true}
+use mathlib.Core.List.{List}
+use mathlib.Core.Logic.{inl, ⊎-elim}
 use mathlib.Core.Path.{_≡_, refl, sym, ap, subst, _∙_}
 use native.Mathlib.Omega.{arith}
 use borrow.Author.Tests.{eqb-true, eqb-false}
-use lib.Dec.{eqb, leb, ltb}
+use lib.Dec.{eqb}
 use lib.ListN.{length, getD}
-use Rattle.base.specs.First.{pick}
 use Rattle.base.proofs.Compare.{same-or-not}
-use Rattle.base.proofs.Decide.{Decides, by-leb, by-ltb, by-eqb, by-true, both}
+use Rattle.base.proofs.Decide.{by-leb, by-ltb, by-eqb, by-true, both}
 use Rattle.trb.specs.Event.{eventOf}
 use Rattle.trb.specs.declared.Words.{Words}
 use Rattle.ids.proofs.AnyLaws.{true-or-false}
@@ -24,7 +23,7 @@ use Rattle.dock.specs.declared.Endpoint.{Endpoint}
 use Rattle.dock.specs.HandOver.{slotNumber, slotFor, foreign, handOverTests, handOverNo}
 use Rattle.dock.specs.Reclaim.{codeOf}
 use Rattle.dock.specs.Worth.{accepted}
-use Rattle.dock.proofs.Reached.{Sound, stateOf, afterHandOver}
+use Rattle.dock.proofs.Reached.{Sound, stateOf}
 use Rattle.dock.proofs.RefusalLaws.{hand-over-exact, hand-over-refuses, hand-over-acts}
 use Rattle.dock.proofs.TestLaws.{by-foreign}
 use Rattle.order.specs.Flat.{flat}

@@ -4,7 +4,7 @@ use Prim.Native.Nat.{ℕ, zero, suc, _+_, _-_, _*_, _/_, _%_, _^_, _≤_, _<_}
 use mathlib.Core.Bool.{Bool, true, false, not}
 use mathlib.Core.List.{List, [], _∷_, _++_}
 use mathlib.Core.Logic.{⊎-elim}
-use mathlib.Core.Path.{_≡_, refl, sym, ap, ap₂, _∙_}
+use mathlib.Core.Path.{_≡_, refl, ap, ap₂, _∙_}
 use native.Mathlib.Omega.{arith}
 use lib.Dec.{eqb}
 use lib.ListN.{length}
@@ -16,7 +16,7 @@ use Rattle.trb.specs.declared.Trb.the-variants.{Normal, Setup, Data, Status, Is
 use Rattle.trb.specs.declared.Words.{Words}
 use Rattle.ring.specs.Ring.{storeAt}
 use Rattle.order.specs.Flat.{flat, setCycle, setSlot, slot-stored}
-use Rattle.order.specs.Model.{Slots, Placed, placed}
+use Rattle.order.specs.Model.{placed}
 use Rattle.order.specs.Model as model
 use Rattle.order.proofs.Index.{pos, pos-is, even}
 use Rattle.promise.specs.Controller.{Entry}

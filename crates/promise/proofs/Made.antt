@@ -1,7 +1,7 @@
 -- Making: the invariant holds of a dock that is made, with its controller at the outset. Assumes nothing.
-use Prim.Native.Nat.{ℕ, zero, suc, _+_, _-_, _*_, _<_, _≤_}
-use mathlib.Core.Bool.{true, false, false≢true}
-use mathlib.Core.List.{List, []}
+use Prim.Native.Nat.{ℕ, zero, suc, _+_, _-_, _*_}
+use mathlib.Core.Bool.{false≢true}
+use mathlib.Core.List.{List}
 use mathlib.Core.Logic.{⊎-elim}
 use mathlib.Core.Path.{_≡_, refl, sym, ap, _∙_}
 use native.Mathlib.Omega.{arith}
@@ -14,7 +14,7 @@ use Rattle.trb.specs.Layouts.{wordsAt}
 use Rattle.trb.specs.declared.Words.{Words}
 use Rattle.table.specs.Finished.{finishedAt}
 use Rattle.table.specs.declared.finished.Finished.the-variants.{Nothing, Event}
-use Rattle.dock.specs.declared.Outcome.the-variants.{Done, Refused}
+use Rattle.dock.specs.declared.Outcome.the-variants.{Done}
 use Rattle.dock.specs.Make.{make, makeNo, makeTests, zeros}
 use Rattle.dock.specs.State.{fresh}
 use Rattle.dock.proofs.BooksLaws.{by-flies}
@@ -25,10 +25,10 @@ use Rattle.dock.proofs.TestLaws.{by-limits, by-sized}
 use Rattle.order.specs.Flat.{flat, zeroed}
 use Rattle.order.specs.Model.{idle}
 use Rattle.order.specs.Model as model
-use Rattle.order.proofs.Moves.{Inv, made-keeps}
-use Rattle.order.proofs.Numbers.{Numbered, made-numbered}
+use Rattle.order.proofs.Moves.{made-keeps}
+use Rattle.order.proofs.Numbers.{made-numbered}
 use Rattle.promise.specs.Run.{fromMaking, madeOf}
-use Rattle.promise.proofs.Kept.{Kept, rests, Latest}
+use Rattle.promise.proofs.Kept.{Kept, rests}
 
 -- A place of zeros is empty.
 getD-zeros : (n i : ℕ) → _≡_ {A = ℕ} (getD (replicate n 0) i 0) 0

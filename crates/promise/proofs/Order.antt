@@ -5,21 +5,17 @@
 --      enough.
 -- Assumes nothing.
 use Prim.Native.Nat.{ℕ, zero, suc, _+_, _-_, _<_, _≤_}
-use mathlib.Core.Bool.{Bool, true, false, false≢true}
-use mathlib.Core.List.{List, []}
-use mathlib.Core.Path.{_≡_, refl, sym, ap, _∙_, subst}
+use mathlib.Core.Bool.{true, false, false≢true}
+use mathlib.Core.Path.{_≡_, refl, sym, ap, _∙_}
 use native.Mathlib.Omega.{arith}
 use lib.ListN.{length, take}
 use Rattle.table.specs.Records.{control}
-use Rattle.dock.specs.declared.Endpoint.{Endpoint}
 use Rattle.order.specs.Flat.{flat}
-use Rattle.order.specs.Model.{Deferring, idle}
+use Rattle.order.specs.Model.{Deferring}
 use Rattle.order.specs.Model as model
 use Rattle.order.proofs.Index.{pos}
-use Rattle.order.proofs.Moves.{Inv, length-layout}
+use Rattle.order.proofs.Moves.{length-layout}
 use Rattle.order.proofs.Order.{Front, inv-in-order, inv-deferred-unseen, inv-drains, inv-drains-by-count}
-use Rattle.promise.specs.Controller.{Entry}
-use Rattle.promise.specs.Requested.{laidOut}
 use Rattle.promise.specs.Run.{World, slots, admitted, stepped, stepping, recordUnderWay, firstUnderWay, Run}
 use Rattle.promise.proofs.Handed.{idle-kept}
 use Rattle.promise.proofs.Kept.{modelIn, Under, rests, opens, shows, hides, Kept}

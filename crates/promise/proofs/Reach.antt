@@ -1,9 +1,6 @@
 -- Every state that a run reaches is one that the dock's calls reach, and has the invariant. Assumes nothing.
-use Prim.Native.Nat.{ℕ}
-use mathlib.Core.Bool.{Bool, true, false}
-use mathlib.Core.List.{List}
+use mathlib.Core.Bool.{true}
 use mathlib.Core.Path.{_≡_}
-use Rattle.dock.specs.declared.Request.{Request}
 use Rattle.dock.proofs.InvariantLaws.{reached-sound}
 use Rattle.dock.proofs.Reached.{Reached, Sound}
 use Rattle.dock.proofs.Reached as reached

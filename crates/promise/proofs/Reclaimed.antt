@@ -1,22 +1,20 @@
 -- A reclaim keeps the invariant. A request leaves flight only when an event stands in the place of its last TRB; that event is of the latest TRB stored
 -- there, which is this one or a later one; so an event has passed all of the request's TRBs, and they are consumed (`left-heard`). What stays outstanding
 -- then still covers what is not consumed, which is what the model asks for. Assumes nothing.
-use Prim.Native.Nat.{ℕ, zero, suc, _+_, _-_, _%_, _/_, _<_, _≤_}
+use Prim.Native.Nat.{ℕ, suc, _+_, _-_, _%_, _<_, _≤_}
 use mathlib.Core.Bool.{Bool, true, false, false≢true}
 use mathlib.Core.List.{List}
-use mathlib.Core.Logic.{_⊎_, inl, inr, ⊎-elim}
-use mathlib.Core.Path.{_≡_, refl, sym, ap, _∙_, subst}
+use mathlib.Core.Logic.{⊎-elim}
+use mathlib.Core.Path.{_≡_, refl, sym, ap, _∙_}
 use native.Mathlib.Nat.{mod-add-mod}
 use native.Mathlib.Omega.{arith}
 use borrow.Author.Tests.{eq-eqb, ne-eqb}
 use lib.Dec.{eqb}
 use lib.ListN.{length}
-use Rattle.base.specs.First.{pick}
 use Rattle.base.proofs.Compare.{lt-or-le}
 use Rattle.ids.specs.Free.{recordCount, idAt}
 use Rattle.ids.specs.Lookup.{findIn}
 use Rattle.ids.specs.declared.Lookup.{Lookup}
-use Rattle.ids.specs.declared.Lookup.the-variants as lookup
 use Rattle.ids.proofs.AnyLaws.{by-held}
 use Rattle.mask.specs.Bit.{bit}
 use Rattle.mask.specs.Compute.{clearBit}
@@ -26,24 +24,24 @@ use Rattle.table.specs.declared.records.Record.{Record}
 use Rattle.dock.specs.declared.Endpoint.{Endpoint}
 use Rattle.dock.specs.declared.ReclaimedOne.{ReclaimedOne}
 use Rattle.dock.specs.Fit.{flies}
-use Rattle.dock.specs.Reclaim.{leave, nothing, placeOf, codeOf, reclaimFlying, reclaimFound, reclaimNo, reclaim}
+use Rattle.dock.specs.Reclaim.{leave, nothing, placeOf, reclaimFlying, reclaimFound, reclaim}
 use Rattle.dock.proofs.BooksLaws.{by-flies, freed-sum}
 use Rattle.dock.proofs.InvariantLaws.{Untouched, Looked, reclaim-result, reclaim-idle}
 use Rattle.dock.proofs.NothingLaws.{reclaim-records}
 use Rattle.dock.proofs.OnceLaws.{held-found}
-use Rattle.dock.proofs.Reached.{State, stateOf, Sound, flightPart, flightSum, afterReclaim}
+use Rattle.dock.proofs.Reached.{stateOf, Sound, flightPart, afterReclaim}
 use Rattle.dock.proofs.ReclaimLaws.{final, Left}
 use Rattle.dock.proofs.RefusalLaws.{reclaim-acts}
 use Rattle.order.specs.Flat.{flat}
 use Rattle.order.specs.Model as model
 use Rattle.order.proofs.Index.{pos, pos-is, slot-lt, distinct}
-use Rattle.order.proofs.Moves.{Inv, free-keeps, length-layout}
-use Rattle.order.proofs.Numbers.{Numbered, free-numbered}
+use Rattle.order.proofs.Moves.{free-keeps, length-layout}
+use Rattle.order.proofs.Numbers.{free-numbered}
 use Rattle.promise.specs.Run.{World, withDock}
 use Rattle.promise.proofs.Awaited.{in-flight}
 use Rattle.promise.proofs.Flying.{Same, same-after, flights-same, flights-freed, idle-changes}
 use Rattle.promise.proofs.Handed.{idle-kept, all-stored}
-use Rattle.promise.proofs.Kept.{modelIn, Kept, rests, Latest, Places, Holds, Flights}
+use Rattle.promise.proofs.Kept.{modelIn, Kept, rests, Latest, Holds}
 use Rattle.promise.proofs.Laid.{bared, bared-length}
 use Rattle.promise.proofs.Seen.{Over, flying-out}
 

@@ -1,17 +1,16 @@
 -- A request in flight is over only where an event stands in the place of its last TRB, if every event that stands anywhere is coded Success or Short
 -- Packet. Assumes nothing.
-use Prim.Native.Nat.{ℕ, zero, suc, _+_, _-_, _%_, _<_, _≤_}
-use mathlib.Core.Bool.{Bool, true, false, not, _||_}
+use Prim.Native.Nat.{ℕ, zero, suc, _+_, _-_, _<_}
+use mathlib.Core.Bool.{Bool, true, false, _||_}
 use mathlib.Core.List.{List}
 use mathlib.Core.Logic.{_⊎_, inl, inr, ⊎-elim}
-use mathlib.Core.Path.{_≡_, refl, sym, ap, _∙_}
+use mathlib.Core.Path.{_≡_, refl, ap}
 use native.Mathlib.Nat.{mod-lt, mod-eq-of-lt}
 use native.Mathlib.Omega.{arith}
 use borrow.Author.Tests.{eqb-true}
 use lib.Dec.{eqb}
 use Rattle.base.specs.First.{pick}
 use Rattle.base.proofs.Decide.{by-eqb, either}
-use Rattle.ids.proofs.AnyLaws.{true-or-false}
 use Rattle.trb.specs.declared.Words.{Words}
 use Rattle.table.specs.Finished.{finishedAt}
 use Rattle.table.specs.declared.finished.Finished.{Finished}
@@ -21,8 +20,8 @@ use Rattle.table.specs.Records.{control, bulk, interrupt, isoch}
 use Rattle.table.specs.declared.records.Record.{Record}
 use Rattle.dock.specs.declared.Endpoint.{Endpoint}
 use Rattle.dock.specs.declared.ReclaimedOne.{ReclaimedOne}
-use Rattle.dock.specs.Reclaim.{nothing, codeOf, remainingOf, placeOf, bulkBy, reclaimBulk, Seen, onward, stageBy, afterStage, statusBy, recordedBy, statusPlace, dataPlace, dataSeen, reclaimControl, counted, closeBelow, Swept, unfinished, fatal, found, sweptBy, sweptAt, sweep, sweptAnswer, reclaimIso, reclaimFlying}
-use Rattle.dock.specs.Worth.{accepted, counts, Worth, bytes, refused, worth}
+use Rattle.dock.specs.Reclaim.{nothing, codeOf, remainingOf, placeOf, bulkBy, reclaimBulk, onward, stageBy, statusBy, recordedBy, statusPlace, dataPlace, dataSeen, reclaimControl, counted, closeBelow, Swept, unfinished, found, sweptBy, sweptAt, sweep, sweptAnswer, reclaimIso, reclaimFlying}
+use Rattle.dock.specs.Worth.{accepted, counts, bytes}
 use Rattle.dock.proofs.CompletionLaws.{worth-counts}
 use Rattle.dock.proofs.RetireLaws.{picked}
 use Rattle.promise.proofs.Kept.{Counts}

@@ -1,28 +1,24 @@
 -- The controller of document 01 goes on as the standard's consumer does (4.9.2, `past` in `trb`): in every state that a run reaches, where the TRB at its slot is
 -- its own, it goes past a link to where the link points, with its state toggled as the link says, and past any other TRB by one slot. Assumes nothing.
-use Prim.Native.Nat.{ℕ, suc, _+_, _-_, _*_, _%_, _^_, _<_, _≤_}
+use Prim.Native.Nat.{ℕ, _+_}
 use mathlib.Core.Bool.{Bool, true, false, not, Bool·beq, false≢true}
-use mathlib.Core.List.{List}
 use mathlib.Core.Logic.{⊎-elim}
-use mathlib.Core.Path.{_≡_, refl, sym, ap, _∙_, subst}
+use mathlib.Core.Path.{_≡_, sym, ap, _∙_, subst}
 use native.Mathlib.Omega.{arith}
 use borrow.Author.Tests.{eqb-true, eqb-false}
 use lib.Dec.{eqb}
-use Rattle.base.specs.First.{pick}
 use Rattle.ids.proofs.AnyLaws.{true-or-false}
 use Rattle.trb.specs.Cycle.{Pointer, past, owned, typeOf, cycleOf}
-use Rattle.trb.specs.Layouts.{wordsOf, wordsAt}
+use Rattle.trb.specs.Layouts.{wordsAt}
 use Rattle.trb.specs.declared.Words.{Words}
 use Rattle.trb.proofs.CycleLaws.{past-link}
 use Rattle.dock.proofs.Reached.{Sound}
 use Rattle.dock.proofs.TestLaws.{by-limits}
-use Rattle.order.specs.Flat.{flat, linkType, setCycle}
-use Rattle.order.specs.Model as model
+use Rattle.order.specs.Flat.{flat, linkType}
 use Rattle.order.proofs.Invariant.{View, waits, follows, consumes, view}
 use Rattle.promise.specs.Controller.{does, goes}
-use Rattle.promise.specs.Controller as controller
 use Rattle.promise.specs.Run.{World, Run}
-use Rattle.promise.proofs.Kept.{positionOf, pointerOf, modelIn, Kept}
+use Rattle.promise.proofs.Kept.{positionOf, pointerOf, Kept}
 use Rattle.promise.proofs.Reach.{run-sound, run-kept}
 
 not-other : (a b : Bool) → Bool·beq a b ≡ true → a ≡ not b → ⊥

@@ -1,16 +1,15 @@
 -- The start of a submission keeps the invariant: an admitted one is the model's begin of a TD with the request's TRBs, deferred for a control request, and
 -- its record has them. Assumes nothing.
-use Prim.Native.Nat.{ℕ, zero, suc, _+_, _-_, _<_, _≤_}
+use Prim.Native.Nat.{ℕ, suc, _+_, _-_, _<_, _≤_}
 use mathlib.Core.Bool.{Bool, true, false}
 use mathlib.Core.List.{List, [], _∷_, _++_}
-use mathlib.Core.Logic.{_⊎_, inl, inr, ⊎-elim}
+use mathlib.Core.Logic.{⊎-elim}
 use mathlib.Core.Option.{none}
 use mathlib.Core.Path.{_≡_, refl, sym, ap, ap₂, _∙_, subst}
 use native.Mathlib.Omega.{arith}
 use borrow.Author.Tests.{eq-eqb, ne-eqb, eqb-true, eqb-false}
 use lib.Dec.{eqb}
 use lib.ListN.{length, length-append}
-use Rattle.base.specs.First.{pick}
 use Rattle.base.proofs.Compare.{same-or-not, lt-or-le}
 use Rattle.base.proofs.Decide.{if-so}
 use Rattle.ids.specs.Free.{recordCount}
@@ -18,32 +17,32 @@ use Rattle.ids.proofs.AnyLaws.{true-or-false}
 use Rattle.mask.specs.Bit.{bit}
 use Rattle.trb.specs.declared.Trb.{Trb}
 use Rattle.trb.specs.declared.Words.{Words}
-use Rattle.table.specs.Records.{control, bulk, interrupt, isoch, inFlight, recordAt}
+use Rattle.table.specs.Records.{inFlight, recordAt}
 use Rattle.table.specs.declared.records.Record.{Record}
 use Rattle.dock.specs.declared.Endpoint.{Endpoint}
 use Rattle.dock.specs.declared.Request.{Request}
 use Rattle.dock.specs.declared.Request.the-variants as asks
 use Rattle.dock.specs.Fit.{flies}
-use Rattle.dock.specs.Requests.{kindOf, bufferOf, required, recordFor}
+use Rattle.dock.specs.Requests.{required, recordFor}
 use Rattle.dock.specs.Start.{startNo, recordTaken, idTaken, charged, writePackets, startedEndpoint, startedRecords}
 use Rattle.dock.specs.Stores.{trbCount}
 use Rattle.dock.proofs.BooksLaws.{by-flies}
-use Rattle.dock.proofs.Reached.{State, stateOf, Sound, afterStart}
+use Rattle.dock.proofs.Reached.{State, stateOf, Sound}
 use Rattle.dock.proofs.RefusalLaws.{start-acts, start-refuses}
-use Rattle.dock.proofs.StartLaws.{Starting, start-admitted, record-below, record-free, record-taken, record-written, records-kept, records-length}
+use Rattle.dock.proofs.StartLaws.{Starting, start-admitted, record-below, record-free, record-taken, record-written, records-kept}
 use Rattle.dock.proofs.StartedLaws.{count-is, required-some}
 use Rattle.order.specs.Flat.{flat}
-use Rattle.order.specs.Model.{Td, Plain, idle, opening, busy, starts, begin, MayBegin}
+use Rattle.order.specs.Model.{Td, Plain, idle, busy, starts, begin, MayBegin}
 use Rattle.order.specs.Model as model
 use Rattle.order.proofs.Index.{pos}
-use Rattle.order.proofs.Moves.{Inv, begin-keeps, length-layout, resting, pending, starts-pending}
+use Rattle.order.proofs.Moves.{Inv, begin-keeps, length-layout, resting, starts-pending}
 use Rattle.order.proofs.Numbers.{Numbered, begin-numbered}
 use Rattle.promise.specs.Requested.{trbsOf, typed}
-use Rattle.promise.specs.Run.{World, withDock, withFirst, withTrbs, admits, started}
+use Rattle.promise.specs.Run.{World, withFirst, withTrbs, admits, started}
 use Rattle.promise.proofs.Asked.{asked-for, trbs-count, trbs-plain, link-is}
 use Rattle.promise.proofs.Awaited.{next-at}
 use Rattle.promise.proofs.Handed.{idle-kept, all-stored}
-use Rattle.promise.proofs.Kept.{positionOf, modelOf, modelIn, upcoming, linkWords, inWork, left, Under, opens, shows, Kept, Counts, Holds, Owner, Flights}
+use Rattle.promise.proofs.Kept.{positionOf, modelIn, linkWords, left, Under, opens, shows, Kept, Counts, Holds, Owner, Flights}
 use Rattle.promise.proofs.Laid.{bare, bared, bared-length, bared-append}
 
 -- ---- the record of an admitted request

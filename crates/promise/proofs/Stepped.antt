@@ -1,8 +1,8 @@
 -- A step of the controller keeps the invariant: it is the model's step. Assumes nothing.
-use Prim.Native.Nat.{ℕ, zero, suc, _+_, _-_, _<_, _≤_}
+use Prim.Native.Nat.{ℕ, _<_, _≤_}
 use mathlib.Core.Bool.{Bool, true, false, Bool·beq}
-use mathlib.Core.List.{List, [], _∷_, _++_}
-use mathlib.Core.Path.{_≡_, refl, sym, ap, subst}
+use mathlib.Core.List.{List, [], _∷_}
+use mathlib.Core.Path.{_≡_, refl, subst}
 use native.Mathlib.Numerals.{add-one}
 use native.Mathlib.Omega.{arith}
 use lib.Dec.{eqb}
@@ -12,7 +12,6 @@ use Rattle.trb.specs.Cycle.{Pointer, cycleOf, owned, typeOf}
 use Rattle.trb.specs.Layouts.{wordsAt}
 use Rattle.trb.specs.declared.Words.{Words}
 use Rattle.order.specs.Flat.{flat, linkType}
-use Rattle.order.specs.Model.{idle}
 use Rattle.order.specs.Model as model
 use Rattle.order.proofs.Moves.{Inv, step-keeps}
 use Rattle.order.proofs.Numbers.{Numbered, step-numbered}

@@ -1,5 +1,5 @@
 -- The next store keeps the invariant: it is the model's store. Assumes nothing.
-use Prim.Native.Nat.{ℕ, zero, suc, _+_, _-_, _*_, _<_, _≤_}
+use Prim.Native.Nat.{ℕ, suc, _+_, _-_, _*_, _<_, _≤_}
 use mathlib.Core.Bool.{Bool, true, false, not, false≢true}
 use mathlib.Core.List.{List, [], _∷_}
 use mathlib.Core.Logic.{_⊎_, inl, inr, ⊎-elim}
@@ -10,7 +10,6 @@ use native.Mathlib.Omega.{arith}
 use borrow.Author.Tests.{eq-eqb, ne-eqb}
 use lib.Dec.{eqb}
 use lib.ListN.{length}
-use Rattle.base.specs.First.{pick}
 use Rattle.base.proofs.Compare.{same-or-not, lt-or-le}
 use Rattle.trb.specs.Layouts.{wordsOf, wordsAt}
 use Rattle.trb.specs.declared.Trb.{Trb}
@@ -20,7 +19,7 @@ use Rattle.ring.specs.declared.Position.{Position}
 use Rattle.ring.proofs.RuleLaws.{store-same, store-other}
 use Rattle.table.specs.Finished.{finishedAt, clearPlace}
 use Rattle.table.specs.Records.{control, recordAt}
-use Rattle.table.specs.declared.finished.Finished.the-variants.{Nothing, Event}
+use Rattle.table.specs.declared.finished.Finished.the-variants.{Event}
 use Rattle.table.specs.declared.records.Record.{Record}
 use Rattle.table.proofs.FinishedLaws.{cleared, others-kept}
 use Rattle.dock.specs.declared.Endpoint.{Endpoint}
@@ -35,11 +34,11 @@ use Rattle.dock.proofs.StepLaws.{step-works, setup-hidden, trb-current}
 use Rattle.order.specs.Flat.{flat, setCycle, setSlot}
 use Rattle.order.specs.Model as model
 use Rattle.order.proofs.Index.{pos, period}
-use Rattle.order.proofs.Moves.{Inv, store-keeps, doing-of, pending, pending-leaves}
+use Rattle.order.proofs.Moves.{Inv, store-keeps, doing-of, pending}
 use Rattle.order.proofs.Numbers.{Numbered, store-numbered}
 use Rattle.promise.specs.Run.{World, withDock}
 use Rattle.promise.proofs.Awaited.{next-at}
-use Rattle.promise.proofs.Kept.{positionOf, modelOf, modelIn, upcoming, LinkSlot, linkWords, left, setupAt, Rests, Opens, Shows, Hides, Under, rests, opens, shows, hides, Begun, Latest, Places, Kept}
+use Rattle.promise.proofs.Kept.{positionOf, modelOf, modelIn, upcoming, LinkSlot, linkWords, left, setupAt, Opens, Shows, Hides, Under, rests, opens, shows, hides, Begun, Places, Kept}
 use Rattle.promise.proofs.Laid.{bare, bared, bared-length, store-is}
 use Rattle.promise.proofs.Made.{never-event}
 use Rattle.promise.proofs.Upcoming.{upcoming-length, left-count, same-upcoming, goes-on, ends-here}

@@ -1,20 +1,17 @@
 -- The TRBs that the stores of a submission will store: they are as many as are asked for, the link's store does not change them, and the next store of a
 -- TRB takes the first. Assumes nothing.
-use Prim.Native.Nat.{ℕ, zero, suc, _+_, _-_, _%_, _^_, _<_, _≤_}
-use mathlib.Core.Bool.{Bool, true, false}
-use mathlib.Core.List.{List, [], _∷_}
-use mathlib.Core.Logic.{_⊎_, inl, inr, ⊎-elim}
-use mathlib.Core.Path.{_≡_, refl, sym, ap, ap₂, _∙_}
-use native.Mathlib.Omega.{arith}
-use lib.Dec.{eqb}
+use Prim.Native.Nat.{ℕ, zero, suc, _+_, _-_, _<_, _≤_}
+use mathlib.Core.Bool.{true, false}
+use mathlib.Core.List.{List, _∷_}
+use mathlib.Core.Logic.{_⊎_, ⊎-elim}
+use mathlib.Core.Path.{_≡_, refl, ap, ap₂, _∙_}
 use lib.ListN.{length}
-use Rattle.base.specs.First.{pick}
-use Rattle.base.proofs.Compare.{same-or-not, lt-or-le}
+use Rattle.base.proofs.Compare.{same-or-not}
 use Rattle.trb.specs.declared.Trb.{Trb}
 use Rattle.table.specs.Records.{control, recordAt}
 use Rattle.table.specs.declared.records.Record.{Record}
 use Rattle.dock.specs.declared.Endpoint.{Endpoint}
-use Rattle.dock.specs.Fit.{Next, theLink, theTrb, theSetup, nextOf, isNone}
+use Rattle.dock.specs.Fit.{theLink, theTrb, theSetup, nextOf, isNone}
 use Rattle.dock.specs.Fit as fit
 use Rattle.dock.specs.Store.{stepped}
 use Rattle.dock.specs.Stores.{trbCount, trbOf}

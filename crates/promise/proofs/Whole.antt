@@ -1,16 +1,15 @@
 -- Runs whose submissions are whole. Each is a run (`whole-run`), no submission is under way between its moves (`whole-rests`), and a whole submission leaves the
 -- dock as the definition of that call says, whatever steps the controller takes between its stores (`submitted-is`). So what is consumed is a front part of what
 -- is admitted, and L-1 steps consume the remainder, between any two moves. Assumes nothing.
-use Prim.Native.Nat.{ℕ, zero, suc, _+_, _-_, _<_, _≤_}
-use mathlib.Core.Bool.{Bool, true, false, not, _&&_, false≢true}
+use Prim.Native.Nat.{ℕ, zero, suc, _-_, _≤_}
+use mathlib.Core.Bool.{true, false, _&&_, false≢true}
 use mathlib.Core.List.{List}
 use mathlib.Core.Logic.{⊎-elim}
-use mathlib.Core.Path.{_≡_, refl, sym, ap, _∙_, subst}
+use mathlib.Core.Path.{_≡_, refl, sym, ap, _∙_}
 use native.Mathlib.Omega.{arith}
-use borrow.Author.Tests.{not-false, eq-eqb, eqb-true, eqb-false}
+use borrow.Author.Tests.{not-false}
 use lib.Dec.{eqb}
 use lib.ListN.{length}
-use Rattle.base.specs.First.{pick}
 use Rattle.base.proofs.Compare.{same-or-not}
 use Rattle.base.proofs.Decide.{if-so, both, by-eqb}
 use Rattle.ids.proofs.AnyLaws.{true-or-false}
@@ -26,9 +25,9 @@ use Rattle.dock.specs.Configure.{configure, plainNo}
 use Rattle.dock.specs.Limits.{ringSize}
 use Rattle.dock.specs.Make.{make, makeNo}
 use Rattle.dock.specs.Reclaim.{leave, nothing, reclaim}
-use Rattle.dock.specs.Start.{startNo, startedEndpoint}
+use Rattle.dock.specs.Start.{startNo}
 use Rattle.dock.specs.Store.{store, storeNo, storeTests}
-use Rattle.dock.specs.Submit.{finish, mostStores, submit}
+use Rattle.dock.specs.Submit.{finish, mostStores}
 use Rattle.dock.specs.Submit as submitting
 use Rattle.dock.proofs.FinishLaws.{submit-done}
 use Rattle.dock.proofs.InvariantLaws.{Untouched, Looked, reclaim-result}

@@ -3,7 +3,7 @@
 -- Success or Short Packet, between submissions". An event that the dock refuses is not bound by them, and one that comes while a submission is under way is
 -- refused (12). Not every consumed TRB need have an event.
 use Prim.Native.Nat.{ℕ, zero, suc, _+_}
-use mathlib.Core.Bool.{Bool, true, false, not, _&&_, _||_}
+use mathlib.Core.Bool.{Bool, true, not, _&&_, _||_}
 use mathlib.Core.List.{List, [], _∷_, _++_}
 use mathlib.Core.Path.{_≡_}
 use lib.Dec.{eqb, leb, ltb}
