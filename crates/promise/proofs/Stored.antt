@@ -191,9 +191,11 @@ module _ (w : World) (h : Sound (w .dock)) (k : Kept w) where
 
   own-link : e .at .place ≡ k .K → LinkSlot (k .K) (e .shape .base) (ringStored theLink e v packets (w .dock .ring))
   unfolding ringStored
-  own-link at-link t =
-      (e .at .cycle, subst (λ (i : ℕ). wordsAt (storeAt (w .dock .ring) (e .at .place) (linkTrb (e .shape .base) false) (e .at .cycle)) i ≡ wordsOf (linkTrb (e .shape .base) false) (e .at .cycle)) at-link
-      (store-same (w .dock .ring) (e .at .place) (linkTrb (e .shape .base) false) (e .at .cycle) ring-room))
+  own-link at-link t = (
+    e .at .cycle,
+    subst (λ (i : ℕ). wordsAt (storeAt (w .dock .ring) (e .at .place) (linkTrb (e .shape .base) false) (e .at .cycle)) i ≡ wordsOf (linkTrb (e .shape .base) false) (e .at .cycle)) at-link
+        (store-same (w .dock .ring) (e .at .place) (linkTrb (e .shape .base) false) (e .at .cycle) ring-room),
+  )
 
   -- ---- the stores of the model
 
