@@ -29,7 +29,8 @@ abbrev bulk : Td S
 bulk = record { first = words 0x30000 0 64 0x424; rest = []; link = link; deferred = false }
 
 abbrev control : Td S
-control = record { first = words 0x01000680 0x00120000 8 0x00030840; rest = words 0x20000 0 0x12 0x00010c04 ∷ words 0 0 0 0x00001020 ∷ []; link = link; deferred = true }
+control =
+    record { first = words 0x01000680 0x00120000 8 0x00030840; rest = words 0x20000 0 0x12 0x00010c04 ∷ words 0 0 0 0x00001020 ∷ []; link = link; deferred = true }
 
 -- a bulk request from its begin to its end
 abbrev one : List (Move S)
@@ -75,7 +76,10 @@ allowed = (
                       tt,
                       (
                         record { covers = lit≤ tt },
-                        (record { none-under-way = refl; running = refl; room = lit< tt; plain = (refl, (refl, (refl, tt))); linked = refl }, (tt, (tt, (tt, (tt, (tt, (tt, (tt, (tt, (tt, (tt, (tt, (tt, (tt, (tt, (tt, (tt, (tt, (tt, (tt, (tt, (tt, (tt, (tt, (tt, (tt, tt)))))))))))))))))))))))))),
+                        (
+                          record { none-under-way = refl; running = refl; room = lit< tt; plain = (refl, (refl, (refl, tt))); linked = refl },
+                          (tt, (tt, (tt, (tt, (tt, (tt, (tt, (tt, (tt, (tt, (tt, (tt, (tt, (tt, (tt, (tt, (tt, (tt, (tt, (tt, (tt, (tt, (tt, (tt, (tt, tt))))))))))))))))))))))))),
+                        ),
                       ),
                     ),
                   ),
@@ -114,7 +118,11 @@ fourth-store : (wordsAt ((after 4) .ring) 1 ≡ words 0 0 0 0x00001020) × (leng
 unfolding after
 fourth-store = (refl, refl)
 
-fifth-store : (wordsAt ((after 5) .ring) 3 ≡ words 0x01000680 0x00120000 8 0x00030841) × ((after 5) .work ≡ idle) × ((after 5) .producer ≡ record { place = 2; cycle = false })
+fifth-store : (wordsAt ((after 5) .ring) 3 ≡ words 0x01000680 0x00120000 8 0x00030841) × ((after 5) .work ≡ idle) × ((after 5) .producer ≡ record {
+  place =
+      2;
+  cycle = false;
+})
 unfolding after
 fifth-store = (refl, refl, refl)
 
@@ -152,7 +160,8 @@ stuck = (refl, refl)
 -- the other cycle bit at slot 0, and consumes nothing for ever. `MayFree` rules this out.
 overwritten : State S
 unfolding play made begin store step free settle cycleOf typeOf wordsAt put putWords setSlot setCycle linkType
-overwritten = play (made S (replicate 20 0)) (two-stores ++ two-stores ++ two-stores ++ to-free 3 ∷ two-stores ++ two-stores ++ two-stores ++ stores 5)
+overwritten =
+    play (made S (replicate 20 0)) (two-stores ++ two-stores ++ two-stores ++ to-free 3 ∷ two-stores ++ two-stores ++ two-stores ++ stores 5)
 
 lost : (length (overwritten .admitted) ≡ 6) × (overwritten .consumed ≡ [])
 unfolding overwritten

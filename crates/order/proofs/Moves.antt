@@ -96,7 +96,8 @@ module _ {K : ℕ} (S : Slots K) where
   length-layout p [] = refl
   length-layout p (x ∷ xs) = ap suc (length-layout (next K p) xs)
 
-  pub layout-append : (n m : ℕ) (xs ys : List (S .Trb)) → n + length xs ≡ m → layout S (pos K n) (xs ++ ys) ≡ layout S (pos K n) xs ++ layout S (pos K m) ys
+  pub layout-append : (n m : ℕ) (xs ys : List (S .Trb)) → n + length xs ≡ m
+      → layout S (pos K n) (xs ++ ys) ≡ layout S (pos K n) xs ++ layout S (pos K m) ys
   layout-append n m [] ys e =
       let k : n ≡ m = omega arith in
       rw k
@@ -119,22 +120,26 @@ module _ {K : ℕ} (S : Slots K) where
   pending-due true link = refl
   pending-due false link = refl
 
-  pub pending-leaves : (p : Position) (rest : List (S .Trb)) (link : S .Trb) (again : Option (Entry S)) → pending {S = S} (leaves p rest link again) ≡ rest
+  pub pending-leaves : (p : Position) (rest : List (S .Trb)) (link : S .Trb) (again : Option (Entry S)) → pending {S =
+      S} (leaves p rest link again) ≡ rest
   pending-leaves p [] link none = pending-due (eqb (p .place) K) link
   pending-leaves p [] link (some e) = refl
   pending-leaves p (x ∷ xs) link again = refl
 
   -- what is left after a store, once more
   module _ (p : Position) (E : ℕ) (hidden : List (S .Trb)) (open-to before : ℕ) where
-    due-shows : (link : S .Trb) → hidden ≡ [] → S .isLink link ≡ true → (b : Bool) → eqb (p .place) K ≡ b → Doing S (choose b (busy [] link none) idle) p E hidden open-to before
+    due-shows : (link : S .Trb) → hidden ≡ [] → S .isLink link ≡ true → (b : Bool) → eqb (p .place) K ≡ b
+        → Doing S (choose b (busy [] link none) idle) p E hidden open-to before
     due-shows link h k true e = record { none-hidden = h; plain = tt; is-link = k; due = λ _. eqb-true (p .place) K e }
     due-shows link h k false e = record { none-hidden = h; off-link = eqb-false (p .place) K e }
 
-    leaves-shows : (rest : List (S .Trb)) (link : S .Trb) → hidden ≡ [] → Plain S rest → S .isLink link ≡ true → Doing S (leaves p rest link none) p E hidden open-to before
+    leaves-shows : (rest : List (S .Trb)) (link : S .Trb) → hidden ≡ [] → Plain S rest → S .isLink link ≡ true
+        → Doing S (leaves p rest link none) p E hidden open-to before
     leaves-shows [] link h pl k = due-shows link h k (eqb (p .place) K) refl
     leaves-shows (x ∷ xs) link h pl k = record { none-hidden = h; plain = pl; is-link = k; due = λ e. absurd (omega (arith, ap length e)) }
 
-    leaves-hides : (rest : List (S .Trb)) (link : S .Trb) (again : Entry S) → Hides S rest link again E hidden open-to before → Doing S (leaves p rest link (some again)) p E hidden open-to before
+    leaves-hides : (rest : List (S .Trb)) (link : S .Trb) (again : Entry S) → Hides S rest link again E hidden open-to before
+        → Doing S (leaves p rest link (some again)) p E hidden open-to before
     leaves-hides [] link again d = d
     leaves-hides (x ∷ xs) link again d = d
 
@@ -150,24 +155,31 @@ module _ {K : ℕ} {S : Slots K} where
     pub room : s .outstanding < K
 
   -- what the invariant says of the work, once it is known which it is
-  pub doing-of : (s : State S) (i : Inv s) {w : Work S} → s .work ≡ w → Doing S w (s .producer) (i .E) (i .hidden) (length (s .consumed) + length (i .queue)) (s .before)
-  doing-of s i e = subst (λ (w : Work S). Doing S w (s .producer) (i .E) (i .hidden) (length (s .consumed) + length (i .queue)) (s .before)) e (i .doing)
+  pub doing-of : (s : State S) (i : Inv s) {w : Work S} → s .work ≡ w
+      → Doing S w (s .producer) (i .E) (i .hidden) (length (s .consumed) + length (i .queue)) (s .before)
+  doing-of s i e =
+      subst (λ (w : Work S). Doing S w (s .producer) (i .E) (i .hidden) (length (s .consumed) + length (i .queue)) (s .before)) e (i .doing)
 
-  pub facts : (s : State S) (i : Inv s) (w : Work S) (h : List (S .Trb)) → s .work ≡ w → i .hidden ≡ h → Busy w → Facts s (i .C) (i .E) (i .P) (i .queue) h w
+  pub facts : (s : State S) (i : Inv s) (w : Work S) (h : List (S .Trb)) → s .work ≡ w → i .hidden ≡ h → Busy w
+      → Facts s (i .C) (i .E) (i .P) (i .queue) h w
   facts s i w h e k b =
       let on : s .live ≡ true = i .awake (subst⁻¹ Busy e b) in
       record {
         on = on;
-        good = subst (λ (x : List (S .Trb)). Good S (s .ring) (s .producer) (s .controller) (i .C) (i .E) (i .P) (i .queue) x) k (subst (λ (c : Position). Good S (s .ring) (s .producer) c (i .C) (i .E) (i .P) (i .queue) (i .hidden)) (chosen (s .live) (s .controller) (s .producer) on) (i .good));
+        good =
+            subst (λ (x : List (S .Trb)). Good S (s .ring) (s .producer) (s .controller) (i .C) (i .E) (i .P) (i .queue) x) k
+            (subst (λ (c : Position). Good S (s .ring) (s .producer) c (i .C) (i .E) (i .P) (i .queue) (i .hidden)) (chosen (s .live) (s .controller) (s .producer) on) (i .good));
         ledger = rw (e, k) at (i .ledger);
         covered = rw (e, k) at (i .covered);
         room = i .room;
       }
 
-  regroup : (s : State S) (C : ℕ) (a b : List (S .Trb)) → a ≡ b → s .admitted ≡ s .consumed ++ layout S (pos K C) a → s .admitted ≡ s .consumed ++ layout S (pos K C) b
+  regroup : (s : State S) (C : ℕ) (a b : List (S .Trb)) → a ≡ b → s .admitted ≡ s .consumed ++ layout S (pos K C) a
+      → s .admitted ≡ s .consumed ++ layout S (pos K C) b
   regroup s C a b e l = rw (← e) l
 
-  from-facts : (s : State S) (C E P : ℕ) (queue hidden : List (S .Trb)) → Facts s C E P queue hidden (s .work) → Doing S (s .work) (s .producer) E hidden (length (s .consumed) + length queue) (s .before) → Inv s
+  from-facts : (s : State S) (C E P : ℕ) (queue hidden : List (S .Trb)) → Facts s C E P queue hidden (s .work)
+      → Doing S (s .work) (s .producer) E hidden (length (s .consumed) + length queue) (s .before) → Inv s
   from-facts s C E P queue hidden f d =
       record {
         C = C;
@@ -175,7 +187,9 @@ module _ {K : ℕ} {S : Slots K} where
         P = P;
         queue = queue;
         hidden = hidden;
-        good = subst⁻¹ (λ (c : Position). Good S (s .ring) (s .producer) c C E P queue hidden) (chosen (s .live) (s .controller) (s .producer) (f .on)) (f .good);
+        good =
+            subst⁻¹ (λ (c : Position). Good S (s .ring) (s .producer) c C E P queue hidden)
+            (chosen (s .live) (s .controller) (s .producer) (f .on)) (f .good);
         doing = d;
         awake = λ b. f .on;
         ledger = f .ledger;
@@ -185,7 +199,8 @@ module _ {K : ℕ} {S : Slots K} where
 
   module _ (some-slot : 0 < K) (s : State S) where
     -- the first TRB of a deferred TD
-    store-first : (i : Inv s) (first : S .Trb) (rest : List (S .Trb)) (link : S .Trb) → s .work ≡ opening first rest link → Inv (storeBy s (s .producer) (opening first rest link) true)
+    store-first : (i : Inv s) (first : S .Trb) (rest : List (S .Trb)) (link : S .Trb) → s .work ≡ opening first rest link
+        → Inv (storeBy s (s .producer) (opening first rest link) true)
     store-first i first rest link e =
         let p : Position = s .producer in
         let d : Opens S first rest link p (i .hidden) (length (s .consumed) + length (i .queue)) (s .before) = doing-of s i e in
@@ -194,8 +209,11 @@ module _ {K : ℕ} {S : Slots K} where
         from-facts (storeBy s p (opening first rest link) true) (i .C) (i .E) (suc (i .P)) (i .queue) (first ∷ [])
         record {
           on = f .on;
-          good = hide S some-slot (s .ring) (s .controller) (i .C) (i .E) (i .P) (i .queue) p (f .good) (d .off-link) first (d .plain .0) (omega (arith, f .good .visible-end, f .good .stored-end, f .covered, f .room));
-          ledger = regroup s (i .C) (i .queue ++ [] ++ first ∷ rest) (i .queue ++ first ∷ [] ++ rest) (one-hidden S (i .queue) rest first) (f .ledger);
+          good =
+              hide S some-slot (s .ring) (s .controller) (i .C) (i .E) (i .P) (i .queue) p (f .good) (d .off-link) first
+              (d .plain .0) (omega (arith, f .good .visible-end, f .good .stored-end, f .covered, f .room));
+          ledger =
+              regroup s (i .C) (i .queue ++ [] ++ first ∷ rest) (i .queue ++ first ∷ [] ++ rest) (one-hidden S (i .queue) rest first) (f .ledger);
           covered = omega (arith, f .covered);
           room = f .room;
         }
@@ -203,14 +221,17 @@ module _ {K : ℕ} {S : Slots K} where
           first = first;
           others = [];
           hidden-are = refl;
-          again-is = ap (λ (q : Position). placed S q first) (producer-is S some-slot (s .ring) (s .controller) (i .C) (i .E) (i .P) (i .queue) p [] (f .good) (d .off-link) ∙ ap (pos K) end);
+          again-is =
+              ap (λ (q : Position). placed S q first)
+              (producer-is S some-slot (s .ring) (s .controller) (i .C) (i .E) (i .P) (i .queue) p [] (f .good) (d .off-link) ∙ ap (pos K) end);
           plain = d .plain .1;
           is-link = d .is-link;
           marked = d .marked;
         }
 
     -- a TRB of a TD that is not deferred
-    store-shown : (i : Inv s) (x : S .Trb) (xs : List (S .Trb)) (link : S .Trb) → s .work ≡ busy (x ∷ xs) link none → eqb (s .producer .place) K ≡ false → Inv (storeBy s (s .producer) (busy (x ∷ xs) link none) false)
+    store-shown : (i : Inv s) (x : S .Trb) (xs : List (S .Trb)) (link : S .Trb) → s .work ≡ busy (x ∷ xs) link none
+        → eqb (s .producer .place) K ≡ false → Inv (storeBy s (s .producer) (busy (x ∷ xs) link none) false)
     store-shown i x xs link e off =
         let p : Position = s .producer in
         let w : Work S = leaves (advance p) xs link none in
@@ -219,41 +240,66 @@ module _ {K : ℕ} {S : Slots K} where
         from-facts (storeBy s p (busy (x ∷ xs) link none) false) (i .C) (suc (i .E)) (suc (i .P)) (i .queue ++ x ∷ []) []
         record {
           on = f .on;
-          good = put-visible S some-slot (s .ring) (s .controller) (i .C) (i .E) (i .P) (i .queue) p (f .good) (eqb-false (p .place) K off) x (d .plain .0) (omega (arith, f .good .visible-end, f .good .stored-end, f .covered, f .room));
-          ledger = rw (pending-leaves S (advance p) xs link none) (regroup s (i .C) (i .queue ++ [] ++ x ∷ xs) (i .queue ++ x ∷ [] ++ [] ++ xs) (one-shown S (i .queue) xs x) (f .ledger));
+          good =
+              put-visible S some-slot (s .ring) (s .controller) (i .C) (i .E) (i .P) (i .queue) p (f .good)
+              (eqb-false (p .place) K off) x (d .plain .0) (omega (arith, f .good .visible-end, f .good .stored-end, f .covered, f .room));
+          ledger =
+              rw (pending-leaves S (advance p) xs link none)
+              (regroup s (i .C) (i .queue ++ [] ++ x ∷ xs) (i .queue ++ x ∷ [] ++ [] ++ xs) (one-shown S (i .queue) xs x) (f .ledger));
           covered = rw (pending-leaves S (advance p) xs link none) (omega (arith, f .covered, length-append (i .queue) (x ∷ [])));
           room = f .room;
         }
-        (leaves-shows S (advance p) (suc (i .E)) [] (length (s .consumed) + length (i .queue ++ x ∷ [])) (s .before) xs link refl (d .plain .1) (d .is-link))
+        (leaves-shows S (advance p) (suc (i .E)) [] (length (s .consumed) + length (i .queue ++ x ∷ []))
+        (s .before) xs link refl (d .plain .1) (d .is-link))
 
     -- a later TRB of a deferred TD
-    store-hidden : (i : Inv s) (x : S .Trb) (xs : List (S .Trb)) (link : S .Trb) (again : Entry S) → s .work ≡ busy (x ∷ xs) link (some again) → eqb (s .producer .place) K ≡ false → Inv (storeBy s (s .producer) (busy (x ∷ xs) link (some again)) false)
+    store-hidden : (i : Inv s) (x : S .Trb) (xs : List (S .Trb)) (link : S .Trb) (again : Entry S)
+        → s .work ≡ busy (x ∷ xs) link (some again) → eqb (s .producer .place) K ≡ false → Inv
+        (storeBy s (s .producer) (busy (x ∷ xs) link (some again)) false)
     store-hidden i x xs link again e off =
         let p : Position = s .producer in
         let d : Hides S (x ∷ xs) link again (i .E) (i .hidden) (length (s .consumed) + length (i .queue)) (s .before) = doing-of s i e in
-        let f : Facts s (i .C) (i .E) (i .P) (i .queue) (d .first ∷ d .others) (busy (x ∷ xs) link (some again)) = facts s i (busy (x ∷ xs) link (some again)) (d .first ∷ d .others) e (d .hidden-are) tt in
+        let f : Facts s (i .C) (i .E) (i .P) (i .queue) (d .first ∷ d .others) (busy (x ∷ xs) link (some again)) =
+        facts s i (busy (x ∷ xs) link (some again)) (d .first ∷ d .others) e (d .hidden-are) tt in
         from-facts (storeBy s p (busy (x ∷ xs) link (some again)) false) (i .C) (i .E) (suc (i .P)) (i .queue) (d .first ∷ (d .others ++ x ∷ []))
         record {
           on = f .on;
-          good = put-hidden S some-slot (s .ring) (s .controller) (i .C) (i .E) (i .P) (i .queue) p (d .first) (d .others) (f .good) (eqb-false (p .place) K off) x (d .plain .0) (omega (arith, f .good .visible-end, f .good .stored-end, f .covered, f .room));
-          ledger = rw (pending-leaves S (advance p) xs link (some again)) (regroup s (i .C) (i .queue ++ d .first ∷ d .others ++ x ∷ xs) (i .queue ++ d .first ∷ (d .others ++ x ∷ []) ++ xs) (one-more S (i .queue) (d .others) xs (d .first) x) (f .ledger));
+          good =
+              put-hidden S some-slot (s .ring) (s .controller) (i .C) (i .E) (i .P) (i .queue) p (d .first) (d .others)
+              (f .good) (eqb-false (p .place) K off) x (d .plain .0) (omega (arith, f .good .visible-end, f .good .stored-end, f .covered, f .room));
+          ledger =
+              rw (pending-leaves S (advance p) xs link (some again))
+              (regroup s (i .C) (i .queue ++ d .first ∷ d .others ++ x ∷ xs) (i .queue ++ d .first ∷ (d .others ++ x ∷ []) ++ xs) (one-more S (i .queue) (d .others) xs (d .first) x) (f .ledger));
           covered = rw (pending-leaves S (advance p) xs link (some again)) (omega (arith, f .covered, length-append (d .others) (x ∷ [])));
           room = f .room;
         }
         (leaves-hides S (advance p) (i .E) (d .first ∷ (d .others ++ x ∷ [])) (length (s .consumed) + length (i .queue)) (s .before) xs link again
-        record { first = d .first; others = d .others ++ x ∷ []; hidden-are = refl; again-is = d .again-is; plain = d .plain .1; is-link = d .is-link; marked = d .marked })
+        record {
+          first =
+              d .first;
+          others = d .others ++ x ∷ [];
+          hidden-are = refl;
+          again-is = d .again-is;
+          plain = d .plain .1;
+          is-link = d .is-link;
+          marked = d .marked;
+        })
 
     -- the first TRB of a deferred TD again
-    store-again : (i : Inv s) (link : S .Trb) (again : Entry S) → s .work ≡ busy [] link (some again) → eqb (s .producer .place) K ≡ false → Inv (storeBy s (s .producer) (busy [] link (some again)) false)
+    store-again : (i : Inv s) (link : S .Trb) (again : Entry S) → s .work ≡ busy [] link (some again)
+        → eqb (s .producer .place) K ≡ false → Inv (storeBy s (s .producer) (busy [] link (some again)) false)
     store-again i link again e off =
         let p : Position = s .producer in
         let d : Hides S [] link again (i .E) (i .hidden) (length (s .consumed) + length (i .queue)) (s .before) = doing-of s i e in
         let hidden : List (S .Trb) = d .first ∷ d .others in
-        let f : Facts s (i .C) (i .E) (i .P) (i .queue) hidden (busy [] link (some again)) = facts s i (busy [] link (some again)) hidden e (d .hidden-are) tt in
+        let f : Facts s (i .C) (i .E) (i .P) (i .queue) hidden (busy [] link (some again)) =
+        facts s i (busy [] link (some again)) hidden e (d .hidden-are) tt in
         from-facts (storeBy s p (busy [] link (some again)) false) (i .C) (i .P) (i .P) (i .queue ++ hidden) []
         record {
           on = f .on;
-          good = subst⁻¹ (λ (a : Entry S). Good S (S .write (s .ring) (a .at) (a .trb)) p (s .controller) (i .C) (i .P) (i .P) (i .queue ++ hidden) []) (d .again-is) (reveal S some-slot (s .ring) (s .controller) (i .C) (i .E) (i .P) (i .queue) p (d .first) (d .others) (f .good));
+          good =
+              subst⁻¹ (λ (a : Entry S). Good S (S .write (s .ring) (a .at) (a .trb)) p (s .controller) (i .C) (i .P) (i .P) (i .queue ++ hidden) [])
+              (d .again-is) (reveal S some-slot (s .ring) (s .controller) (i .C) (i .E) (i .P) (i .queue) p (d .first) (d .others) (f .good));
           ledger = regroup s (i .C) (i .queue ++ hidden ++ []) (i .queue ++ hidden ++ [] ++ []) (all-shown S (i .queue) hidden) (f .ledger);
           covered = omega (arith, f .covered, length-append (i .queue) hidden);
           room = f .room;
@@ -261,8 +307,10 @@ module _ {K : ℕ} {S : Slots K} where
         record { none-hidden = refl; off-link = eqb-false (p .place) K off }
 
     -- the link
-    store-link : (i : Inv s) (rest : List (S .Trb)) (link : S .Trb) (again : Option (Entry S)) → s .work ≡ busy rest link again → s .producer .place ≡ K → S .isLink link ≡ true
-        → Doing S (leaves (around (s .producer)) rest link again) (around (s .producer)) (i .E) (i .hidden) (length (s .consumed) + length (i .queue)) (s .before)
+    store-link : (i : Inv s) (rest : List (S .Trb)) (link : S .Trb) (again : Option (Entry S))
+        → s .work ≡ busy rest link again → s .producer .place ≡ K → S .isLink link ≡ true
+        → Doing S (leaves (around (s .producer)) rest link again) (around (s .producer)) (i .E) (i .hidden)
+        (length (s .consumed) + length (i .queue)) (s .before)
         → Inv (storeBy s (s .producer) (busy rest link again) true)
     store-link i rest link again e at-link is-link doing =
         let p : Position = s .producer in
@@ -284,7 +332,8 @@ module _ {K : ℕ} {S : Slots K} where
         let p : Position = s .producer in
         let d : Shows S rest link p (i .hidden) = doing-of s i e in
         store-link i rest link none e (eqb-true (p .place) K k) (d .is-link)
-        (leaves-shows S (around p) (i .E) (i .hidden) (length (s .consumed) + length (i .queue)) (s .before) rest link (d .none-hidden) (d .plain) (d .is-link))
+        (leaves-shows S (around p) (i .E) (i .hidden) (length (s .consumed) + length (i .queue)) (s .before) rest link
+        (d .none-hidden) (d .plain) (d .is-link))
     store-by i (busy rest link (some again)) true e k =
         let p : Position = s .producer in
         let d : Hides S rest link again (i .E) (i .hidden) (length (s .consumed) + length (i .queue)) (s .before) = doing-of s i e in
@@ -313,38 +362,48 @@ module _ {K : ℕ} {S : Slots K} where
   -- what a step of a running controller comes to
   pub data Outcome (s : State S) (i : Inv s) : Type 0 where
     waited : step s ≡ s → i .queue ≡ [] → Outcome s i
-    followed : step s ≡ moved s (around (s .controller)) (s .consumed) → s .controller .place ≡ K → S .isLink (S .read (s .ring) K) ≡ true → Outcome s i
-    took : (x : S .Trb) (xs : List (S .Trb)) → step s ≡ moved s (advance (s .controller)) (s .consumed ++ placed S (s .controller) x ∷ []) → i .queue ≡ x ∷ xs → s .controller ≡ pos K (i .C) → Outcome s i
+    followed : step s ≡ moved s (around (s .controller)) (s .consumed) → s .controller .place ≡ K
+        → S .isLink (S .read (s .ring) K) ≡ true → Outcome s i
+    took : (x : S .Trb) (xs : List (S .Trb)) → step s ≡ moved s (advance (s .controller)) (s .consumed ++ placed S (s .controller) x ∷ [])
+        → i .queue ≡ x ∷ xs → s .controller ≡ pos K (i .C) → Outcome s i
 
   stopped-step : (s : State S) → s .live ≡ false → step s ≡ s
   unfolding step
   stopped-step s off = rw off
 
-  read-step : (s : State S) (same link : Bool) → s .live ≡ true → Bool·beq (S .cycleOf (S .read (s .ring) (s .controller .place))) (s .controller .cycle) ≡ same
-      → S .isLink (S .read (s .ring) (s .controller .place)) ≡ link → step s ≡ stepBy s (s .controller) (S .read (s .ring) (s .controller .place)) same link
+  read-step : (s : State S) (same link : Bool) → s .live ≡ true
+      → Bool·beq (S .cycleOf (S .read (s .ring) (s .controller .place))) (s .controller .cycle) ≡ same
+      → S .isLink (S .read (s .ring) (s .controller .place)) ≡ link → step s ≡ stepBy s (s .controller)
+      (S .read (s .ring) (s .controller .place)) same link
   unfolding step
   read-step s same link on e k = rw (on, e, k)
 
   module _ (some-slot : 0 < K) (s : State S) where
     pub running-good : (i : Inv s) → s .live ≡ true → Good S (s .ring) (s .producer) (s .controller) (i .C) (i .E) (i .P) (i .queue) (i .hidden)
-    running-good i on = subst (λ (c : Position). Good S (s .ring) (s .producer) c (i .C) (i .E) (i .P) (i .queue) (i .hidden)) (chosen (s .live) (s .controller) (s .producer) on) (i .good)
+    running-good i on =
+        subst (λ (c : Position). Good S (s .ring) (s .producer) c (i .C) (i .E) (i .P) (i .queue) (i .hidden))
+        (chosen (s .live) (s .controller) (s .producer) on) (i .good)
 
     outcome-of : (i : Inv s) → s .live ≡ true → View S (s .ring) (s .controller) (i .C) (i .queue) → Outcome s i
     outcome-of i on (waits other none-left) = waited (read-step s false _ on (beq-other _ _ other) refl) none-left
     outcome-of i on (follows at-link same is-link) =
-        followed (read-step s true true on (beq-same _ _ same) is-link) at-link (subst (λ (k : ℕ). S .isLink (S .read (s .ring) k) ≡ true) at-link is-link)
+        followed (read-step s true true on (beq-same _ _ same) is-link) at-link
+        (subst (λ (k : ℕ). S .isLink (S .read (s .ring) k) ≡ true) at-link is-link)
     outcome-of i on (consumes x xs queue-is here read-is x-plain) =
         let c : Position = s .controller in
         took x xs
-        (read-step s true false on (beq-same _ _ (ap (S .cycleOf) read-is ∙ S .cycle-with (c .cycle) x)) (ap (S .isLink) read-is ∙ S .link-with (c .cycle) x ∙ x-plain)
+        (read-step s true false on (beq-same _ _ (ap (S .cycleOf) read-is ∙ S .cycle-with (c .cycle) x))
+        (ap (S .isLink) read-is ∙ S .link-with (c .cycle) x ∙ x-plain)
         ∙ ap (λ (t : S .Trb). moved s (advance c) (s .consumed ++ record { at = c .place; trb = t } ∷ [])) read-is)
         queue-is
         here
 
     pub outcome : (i : Inv s) → s .live ≡ true → Outcome s i
-    outcome i on = outcome-of i on (view S some-slot (s .ring) (s .producer) (i .C) (i .E) (i .P) (i .hidden) (s .controller) (i .queue) (running-good i on))
+    outcome i on =
+        outcome-of i on (view S some-slot (s .ring) (s .producer) (i .C) (i .E) (i .P) (i .hidden) (s .controller) (i .queue) (running-good i on))
 
-    follow-keeps : (i : Inv s) → s .live ≡ true → s .controller .place ≡ K → S .isLink (S .read (s .ring) K) ≡ true → Inv (moved s (around (s .controller)) (s .consumed))
+    follow-keeps : (i : Inv s) → s .live ≡ true → s .controller .place ≡ K → S .isLink (S .read (s .ring) K) ≡ true
+        → Inv (moved s (around (s .controller)) (s .consumed))
     follow-keeps i on at-link is-link =
         record {
           C = i .C;
@@ -352,7 +411,9 @@ module _ {K : ℕ} {S : Slots K} where
           P = i .P;
           queue = i .queue;
           hidden = i .hidden;
-          good = subst⁻¹ (λ (c : Position). Good S (s .ring) (s .producer) c (i .C) (i .E) (i .P) (i .queue) (i .hidden)) (chosen (s .live) (around (s .controller)) (s .producer) on) (follow S some-slot (s .ring) (s .producer) (i .C) (i .E) (i .P) (i .hidden) (s .controller) (i .queue) (running-good i on) at-link is-link);
+          good =
+              subst⁻¹ (λ (c : Position). Good S (s .ring) (s .producer) c (i .C) (i .E) (i .P) (i .queue) (i .hidden))
+              (chosen (s .live) (around (s .controller)) (s .producer) on) (follow S some-slot (s .ring) (s .producer) (i .C) (i .E) (i .P) (i .hidden) (s .controller) (i .queue) (running-good i on) at-link is-link);
           doing = i .doing;
           awake = i .awake;
           ledger = i .ledger;
@@ -360,10 +421,12 @@ module _ {K : ℕ} {S : Slots K} where
           room = i .room;
         }
 
-    consume-keeps : (i : Inv s) → s .live ≡ true → (x : S .Trb) (xs : List (S .Trb)) → i .queue ≡ x ∷ xs → s .controller ≡ pos K (i .C) → Inv (moved s (advance (s .controller)) (s .consumed ++ placed S (s .controller) x ∷ []))
+    consume-keeps : (i : Inv s) → s .live ≡ true → (x : S .Trb) (xs : List (S .Trb)) → i .queue ≡ x ∷ xs
+        → s .controller ≡ pos K (i .C) → Inv (moved s (advance (s .controller)) (s .consumed ++ placed S (s .controller) x ∷ []))
     consume-keeps i on x xs queue-is here =
         let e : Entry S = placed S (s .controller) x in
-        let g : Good S (s .ring) (s .producer) (pos K (i .C)) (i .C) (i .E) (i .P) (x ∷ xs) (i .hidden) = rw (here, queue-is) at (running-good i on) in
+        let g : Good S (s .ring) (s .producer) (pos K (i .C)) (i .C) (i .E) (i .P) (x ∷ xs) (i .hidden) =
+        rw (here, queue-is) at (running-good i on) in
         record {
           C = suc (i .C);
           E = i .E;
@@ -371,9 +434,12 @@ module _ {K : ℕ} {S : Slots K} where
           queue = xs;
           hidden = i .hidden;
           good =
-              subst⁻¹ (λ (c : Position). Good S (s .ring) (s .producer) c (suc (i .C)) (i .E) (i .P) xs (i .hidden)) (chosen (s .live) (advance (s .controller)) (s .producer) on ∙ ap advance here)
+              subst⁻¹ (λ (c : Position). Good S (s .ring) (s .producer) c (suc (i .C)) (i .E) (i .P) xs (i .hidden))
+              (chosen (s .live) (advance (s .controller)) (s .producer) on ∙ ap advance here)
               (consume S some-slot (s .ring) (s .producer) (i .C) (i .E) (i .P) (i .hidden) x xs g);
-          doing = subst (λ (n : ℕ). Doing S (s .work) (s .producer) (i .E) (i .hidden) n (s .before)) (omega (arith, length-append (s .consumed) (e ∷ []), ap length queue-is)) (i .doing);
+          doing =
+              subst (λ (n : ℕ). Doing S (s .work) (s .producer) (i .E) (i .hidden) n (s .before))
+              (omega (arith, length-append (s .consumed) (e ∷ []), ap length queue-is)) (i .doing);
           awake = i .awake;
           ledger = rw (append-snoc, here) (rw queue-is at (i .ledger));
           covered = omega (arith, i .covered, ap length queue-is);
@@ -481,8 +547,10 @@ module _ {K : ℕ} {S : Slots K} (some-slot : 0 < K) where
 
     starts-doing : (td : Td S) → MayBegin s td → s .producer .place ≢ K → length (s .consumed) + length (i .queue) ≡ length (s .admitted) → (b : Bool)
         → Doing S (starts td b) (s .producer) (i .E) [] (length (s .consumed) + length (i .queue)) (length (s .admitted))
-    starts-doing td may off-link marked true = record { none-hidden = refl; off-link = off-link; plain = may .plain; is-link = may .linked; marked = marked }
-    starts-doing td may off-link marked false = record { none-hidden = refl; plain = may .plain; is-link = may .linked; due = λ e. absurd (omega (arith, ap length e)) }
+    starts-doing td may off-link marked true =
+        record { none-hidden = refl; off-link = off-link; plain = may .plain; is-link = may .linked; marked = marked }
+    starts-doing td may off-link marked false =
+        record { none-hidden = refl; plain = may .plain; is-link = may .linked; due = λ e. absurd (omega (arith, ap length e)) }
 
     pub begin-keeps : (td : Td S) → MayBegin s td → Inv (begin s td)
     unfolding begin
@@ -490,9 +558,12 @@ module _ {K : ℕ} {S : Slots K} (some-slot : 0 < K) where
         let d : Rests S (s .producer) (i .hidden) = resting (may .none-under-way) in
         let g : Good S (s .ring) (s .producer) (head s) (i .C) (i .E) (i .P) (i .queue) [] = rw (d .none-hidden) at (i .good) in
         let trbs : List (S .Trb) = td .first ∷ td .rest in
-        let here : s .producer ≡ pos K (i .P) = producer-is S some-slot (s .ring) (head s) (i .C) (i .E) (i .P) (i .queue) (s .producer) [] g (d .off-link) in
-        let ledger : s .admitted ≡ s .consumed ++ layout S (pos K (i .C)) (i .queue) = simp (may .none-under-way, d .none-hidden, append-nil) at (i .ledger) in
-        let marked : length (s .consumed) + length (i .queue) ≡ length (s .admitted) = sym (ap length ledger ∙ simp (length-append, length-layout) refl) in
+        let here : s .producer ≡ pos K (i .P) =
+        producer-is S some-slot (s .ring) (head s) (i .C) (i .E) (i .P) (i .queue) (s .producer) [] g (d .off-link) in
+        let ledger : s .admitted ≡ s .consumed ++ layout S (pos K (i .C)) (i .queue) =
+        simp (may .none-under-way, d .none-hidden, append-nil) at (i .ledger) in
+        let marked : length (s .consumed) + length (i .queue) ≡ length (s .admitted) =
+        sym (ap length ledger ∙ simp (length-append, length-layout) refl) in
         let end : i .C + length (i .queue) ≡ i .P = omega (arith, g .visible-end, g .stored-end) in
         record {
           C = i .C;
@@ -503,7 +574,9 @@ module _ {K : ℕ} {S : Slots K} (some-slot : 0 < K) where
           good = g;
           doing = starts-doing td may (d .off-link) marked (td .deferred);
           awake = λ b. may .running;
-          ledger = rw (starts-pending td (td .deferred), append-nil (i .queue), layout-append S (i .C) (i .P) (i .queue) trbs end, here, ledger) (append-assoc (s .consumed) (layout S (pos K (i .C)) (i .queue)) (layout S (pos K (i .P)) trbs));
+          ledger =
+              rw (starts-pending td (td .deferred), append-nil (i .queue), layout-append S (i .C) (i .P) (i .queue) trbs end, here, ledger)
+              (append-assoc (s .consumed) (layout S (pos K (i .C)) (i .queue)) (layout S (pos K (i .P)) trbs));
           covered = rw (starts-pending td (td .deferred)) (omega (arith, i .covered));
           room = may .room;
         }

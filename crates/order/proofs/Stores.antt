@@ -42,7 +42,8 @@ module _ {K : ℕ} {S : Slots K} where
   stores (suc n) s = stores n (store s)
 
 module _ {K : ℕ} (S : Slots K) where
-  left-due : (p : Position) (link : S .Trb) → p .place ≤ K → (b : Bool) → eqb (p .place) K ≡ b → leftBy {S = S} p (choose b (busy [] link none) idle) ≡ 0 + link-due K (p .place) 0 + 0
+  left-due : (p : Position) (link : S .Trb) → p .place ≤ K → (b : Bool) → eqb (p .place) K ≡ b → leftBy {S =
+      S} p (choose b (busy [] link none) idle) ≡ 0 + link-due K (p .place) 0 + 0
   left-due p link h true e = refl
   left-due p link h false e = omega (arith, eqb-false (p .place) K e, due-no K (p .place) 0 (omega (arith, eqb-false (p .place) K e)))
 
@@ -64,10 +65,17 @@ module _ {K : ℕ} {S : Slots K} where
     counts-by (opening first rest link) b e k t = refl
     counts-by (busy rest link again) true e k t =
         let p : Position = s .producer in
-        omega (arith, left-leaves S (around p) rest link again (omega arith), due-no K 0 (length rest) (omega (arith, few rest link again e)), due-yes K (p .place) (length rest) (omega (arith, eqb-true (p .place) K k)))
+        omega (
+          arith,
+          left-leaves S (around p) rest link again (omega arith),
+          due-no K 0 (length rest)
+              (omega (arith, few rest link again e)),
+          due-yes K (p .place) (length rest) (omega (arith, eqb-true (p .place) K k)),
+        )
     counts-by (busy (x ∷ xs) link again) false e k t =
         let p : Position = s .producer in
-        let same : link-due K (suc (p .place)) (length xs) ≡ link-due K (p .place) (suc (length xs)) = ap (λ (n : ℕ). choose (leb K n) 1 0) (omega arith) in
+        let same : link-due K (suc (p .place)) (length xs) ≡ link-due K (p .place) (suc (length xs)) =
+        ap (λ (n : ℕ). choose (leb K n) 1 0) (omega arith) in
         omega (arith, left-leaves S (advance p) xs link again (omega (arith, i .good .producer-in, eqb-false (p .place) K k)))
     counts-by (busy [] link (some again)) false e k t =
         let p : Position = s .producer in
@@ -100,9 +108,11 @@ module _ {K : ℕ} {S : Slots K} where
   abbrev pub stores-of : Td S → ℕ → ℕ
   stores-of td i = suc (length (td .rest)) + link-due K i (suc (length (td .rest))) + choose (td .deferred) 1 0
 
-  starts-counts : (td : Td S) (p : Position) (b : Bool) → leftBy p (starts td b) ≡ suc (length (td .rest)) + link-due K (p .place) (suc (length (td .rest))) + choose b 1 0
+  starts-counts : (td : Td S) (p : Position) (b : Bool)
+      → leftBy p (starts td b) ≡ suc (length (td .rest)) + link-due K (p .place) (suc (length (td .rest))) + choose b 1 0
   starts-counts td p true =
-      let same : link-due K (suc (p .place)) (length (td .rest)) ≡ link-due K (p .place) (suc (length (td .rest))) = ap (λ (n : ℕ). choose (leb K n) 1 0) (omega arith) in
+      let same : link-due K (suc (p .place)) (length (td .rest)) ≡ link-due K (p .place) (suc (length (td .rest))) =
+      ap (λ (n : ℕ). choose (leb K n) 1 0) (omega arith) in
       omega arith
   starts-counts td p false = refl
 

@@ -77,7 +77,8 @@ slot-same K r i t fits inside =
     let h : 4 * i + 4 ≤ length r = omega arith in
     ap (λ (l : List ℕ). wordsAt l i) (slot-stored r i t h) ∙ words-same r i t h
 
-other-by : (r : List ℕ) (i j : ℕ) (t : Words) → j ≢ i → (b : Bool) → leb (4 * i + 4) (length r) ≡ b → wordsAt (pick b (putWords r i t) r) j ≡ wordsAt r j
+other-by : (r : List ℕ) (i j : ℕ) (t : Words) → j ≢ i → (b : Bool) → leb (4 * i + 4) (length r) ≡ b
+    → wordsAt (pick b (putWords r i t) r) j ≡ wordsAt r j
 other-by r i j t ne true e = words-other r i t (leb-true (4 * i + 4) (length r) e) j ne
 other-by r i j t ne false e = refl
 
@@ -106,7 +107,7 @@ flat K =
     }
 
 -- words of zero
-getD-zeros : (n i : ℕ) → _≡_ {A = ℕ} (getD (replicate n 0) i 0) 0
+pub getD-zeros : (n i : ℕ) → _≡_ {A = ℕ} (getD (replicate n 0) i 0) 0
 getD-zeros zero i = refl
 getD-zeros (suc n) zero = refl
 getD-zeros (suc n) (suc i) = getD-zeros n i

@@ -129,7 +129,8 @@ module _ {K : ℕ} (S : Slots K) where
 
   -- the state that is made of a zeroed ring
   unfoldable pub made : S .Ring → State
-  made r = record { ring = r; producer = origin; work = idle; controller = origin; live = true; consumed = []; admitted = []; before = 0; outstanding = 0 }
+  made r =
+      record { ring = r; producer = origin; work = idle; controller = origin; live = true; consumed = []; admitted = []; before = 0; outstanding = 0 }
 
   -- the six moves
   pub data Move : Type 0 where
@@ -146,22 +147,66 @@ module _ {K : ℕ} {S : Slots K} where
   -- The four ways in which a move changes a state: the producer stores t in slot i, and is then at p with w left to do;
   abbrev pub put : State S → ℕ → S .Trb → Position → Work S → State S
   put s i t p w =
-      record { ring = S .write (s .ring) i t; producer = p; work = w; controller = s .controller; live = s .live; consumed = s .consumed; admitted = s .admitted; before = s .before; outstanding = s .outstanding }
+      record {
+        ring =
+            S .write (s .ring) i t;
+        producer = p;
+        work = w;
+        controller = s .controller;
+        live = s .live;
+        consumed = s .consumed;
+        admitted = s .admitted;
+        before = s .before;
+        outstanding = s .outstanding;
+      }
 
   -- the controller goes to c, with l consumed;
   abbrev pub moved : State S → Position → List (Entry S) → State S
   moved s c l =
-      record { ring = s .ring; producer = s .producer; work = s .work; controller = c; live = s .live; consumed = l; admitted = s .admitted; before = s .before; outstanding = s .outstanding }
+      record {
+        ring =
+            s .ring;
+        producer = s .producer;
+        work = s .work;
+        controller = c;
+        live = s .live;
+        consumed = l;
+        admitted = s .admitted;
+        before = s .before;
+        outstanding = s .outstanding;
+      }
 
   -- the work and the books change;
   abbrev pub booked : State S → Work S → List (Entry S) → ℕ → ℕ → State S
   booked s w l b n =
-      record { ring = s .ring; producer = s .producer; work = w; controller = s .controller; live = s .live; consumed = s .consumed; admitted = l; before = b; outstanding = n }
+      record {
+        ring =
+            s .ring;
+        producer = s .producer;
+        work = w;
+        controller = s .controller;
+        live = s .live;
+        consumed = s .consumed;
+        admitted = l;
+        before = b;
+        outstanding = n;
+      }
 
   -- the controller is stopped or set going, at c.
   abbrev pub switched : State S → Position → Bool → List (Entry S) → State S
   switched s c b l =
-      record { ring = s .ring; producer = s .producer; work = s .work; controller = c; live = b; consumed = s .consumed; admitted = l; before = s .before; outstanding = s .outstanding }
+      record {
+        ring =
+            s .ring;
+        producer = s .producer;
+        work = s .work;
+        controller = c;
+        live = b;
+        consumed = s .consumed;
+        admitted = l;
+        before = s .before;
+        outstanding = s .outstanding;
+      }
 
   -- BEGIN a TD: nothing is stored yet
   abbrev pub starts : Td S → Bool → Work S
@@ -181,7 +226,8 @@ module _ {K : ℕ} {S : Slots K} where
   -- by what is left, and whether the producer, at p, stands at the link's slot
   abbrev pub storeBy : State S → Position → Work S → Bool → State S
   storeBy s p idle at-link = s
-  storeBy s p (opening first rest link) at-link = put s (p .place) (S .withCycle (not (p .cycle)) first) (advance p) (busy rest link (some (placed S p first)))
+  storeBy s p (opening first rest link) at-link =
+      put s (p .place) (S .withCycle (not (p .cycle)) first) (advance p) (busy rest link (some (placed S p first)))
   storeBy s p (busy rest link again) true = put s K (S .withCycle (p .cycle) link) (around p) (leaves (around p) rest link again)
   storeBy s p (busy (x ∷ xs) link again) false = put s (p .place) (S .withCycle (p .cycle) x) (advance p) (leaves (advance p) xs link again)
   storeBy s p (busy [] link (some e)) false = put s (e .at) (e .trb) p idle

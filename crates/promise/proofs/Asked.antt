@@ -61,7 +61,8 @@ module _ (kind request value index address size : ℕ) (fits : typed (asks.Contr
   abbrev packed : ℕ
   packed = kind + request * 2 ^ 8 + value * 2 ^ 16 + index * 2 ^ 32
 
-  setup-fields : (size transfer : ℕ) → Setup (bits 0 8 packed) (bits 8 8 packed) (bits 16 16 packed) (bits 32 16 packed) size transfer ≡ Setup kind request value index size transfer
+  setup-fields : (size transfer : ℕ)
+      → Setup (bits 0 8 packed) (bits 8 8 packed) (bits 16 16 packed) (bits 32 16 packed) size transfer ≡ Setup kind request value index size transfer
   setup-fields size transfer =
       let s = small in
       let after-kind : packed / 2 ^ 8 ≡ request + value * 2 ^ 8 + index * 2 ^ 24 = omega (arith, s .kind-small) in
@@ -79,7 +80,9 @@ module _ (kind request value index address size : ℕ) (fits : typed (asks.Contr
     v = recordFor (asks.Control kind request value index address size) lengths id place
 
     size-small : size ≤ 65535
-    size-small = ⊎-elim (λ (h : 65535 < size). absurd (by-too-long-control kind request value index address size lengths .not-so short h)) (λ (h : size ≤ 65535). h) (lt-or-le 65535 size)
+    size-small =
+        ⊎-elim (λ (h : 65535 < size). absurd (by-too-long-control kind request value index address size lengths .not-so short h))
+        (λ (h : size ≤ 65535). h) (lt-or-le 65535 size)
 
     no-data : (incoming : Bool) → Status true (not (incoming && false)) ≡ Status true true
     no-data true = refl
@@ -107,29 +110,34 @@ module _ (kind request value index address size : ℕ) (fits : typed (asks.Contr
     control-asked =
         ⊎-elim
         (λ (q : size ≡ 0). let none : eqb size 0 ≡ true = eq-eqb size 0 q in ap (λ (n : ℕ). upcoming n e v packets) (rw none refl) ∙ control-none q)
-        (λ (q : size ≡ 0 → ⊥). let none : eqb size 0 ≡ false = ne-eqb size 0 q in ap (λ (n : ℕ). upcoming n e v packets) (rw none refl) ∙ control-some (omega arith))
+        (λ (q : size ≡ 0 → ⊥). let none : eqb size 0 ≡ false = ne-eqb size 0 q in ap (λ (n : ℕ). upcoming n e v packets)
+        (rw none refl) ∙ control-some (omega arith))
         (same-or-not size 0)
 
 -- ---- bulk and interrupt
 
 module _ (incoming : Bool) (address size : ℕ) (lengths : List ℕ) (id place : ℕ) (e : Endpoint) (packets : List ℕ) where
-  normal-asked : (v : Record) → size ≤ 65536 → v ≡ recordFor (asks.Bulk incoming address size) lengths id place ⊎ v ≡ recordFor (asks.Interrupt incoming address size) lengths id place
+  normal-asked : (v : Record) → size ≤ 65536
+      → v ≡ recordFor (asks.Bulk incoming address size) lengths id place ⊎ v ≡ recordFor (asks.Interrupt incoming address size) lengths id place
       → upcoming 1 e v packets ≡ normalTrbs address size
   unfolding upcoming trbOf
   normal-asked v small (inl q) = let field : size % 2 ^ 17 ≡ size = omega arith in rw (q, field)
   normal-asked v small (inr q) = let field : size % 2 ^ 17 ≡ size = omega arith in rw (q, field)
 
-  bulk-asked : tooLong (asks.Bulk incoming address size) lengths ≡ false → upcoming 1 e (recordFor (asks.Bulk incoming address size) lengths id place) packets ≡ normalTrbs address size
+  bulk-asked : tooLong (asks.Bulk incoming address size) lengths ≡ false
+      → upcoming 1 e (recordFor (asks.Bulk incoming address size) lengths id place) packets ≡ normalTrbs address size
   bulk-asked short =
       normal-asked _
-      (⊎-elim (λ (h : 65536 < size). absurd (by-too-long-bulk incoming address size lengths .not-so short h)) (λ (h : size ≤ 65536). h) (lt-or-le 65536 size))
+      (⊎-elim (λ (h : 65536 < size). absurd (by-too-long-bulk incoming address size lengths .not-so short h))
+      (λ (h : size ≤ 65536). h) (lt-or-le 65536 size))
       (inl refl)
 
   interrupt-asked : tooLong (asks.Interrupt incoming address size) lengths ≡ false
       → upcoming 1 e (recordFor (asks.Interrupt incoming address size) lengths id place) packets ≡ normalTrbs address size
   interrupt-asked short =
       normal-asked _
-      (⊎-elim (λ (h : 65536 < size). absurd (by-too-long-interrupt incoming address size lengths .not-so short h)) (λ (h : size ≤ 65536). h) (lt-or-le 65536 size))
+      (⊎-elim (λ (h : 65536 < size). absurd (by-too-long-interrupt incoming address size lengths .not-so short h))
+      (λ (h : size ≤ 65536). h) (lt-or-le 65536 size))
       (inr refl)
 
 -- ---- ISO
@@ -174,7 +182,8 @@ module _ (incoming : Bool) (address size : ℕ) (lengths : List ℕ) (id place :
     unfolding stepped
     next-address = rw asked
 
-  iso-from : (ns : List ℕ) (e : Endpoint) → Asks e ns → upcoming (length ns) e iso packets ≡ isochTrbs incoming (e .periodic .packet) (e .periodic .burst) (e .work .address) ns
+  iso-from : (ns : List ℕ) (e : Endpoint) → Asks e ns
+      → upcoming (length ns) e iso packets ≡ isochTrbs incoming (e .periodic .packet) (e .periodic .burst) (e .work .address) ns
   unfolding upcoming
   iso-from [] e a = refl
   iso-from (n ∷ ns) e a =
@@ -195,9 +204,11 @@ all-short (n ∷ ns) short k l = short k l
 -- An endpoint that has begun on the request in record r, under an id and from a place, with the request's packets written.
 module _ (lengths : List ℕ) (id place r : ℕ) (packets : List ℕ) (sized : length packets ≡ packetsSize) (within : r < recordCount) (e : Endpoint) (none-stored : e .work .stored ≡ 0) (number : e .work .number ≡ r) where
   pub asked-for : (request : Request) → tooLong request lengths ≡ false → typed request ≡ true → e .work .address ≡ bufferOf request
-      → upcoming (required request lengths) e (recordFor request lengths id place) (writePackets packets r request lengths) ≡ trbsOf (e .periodic) request lengths
+      → upcoming (required request lengths) e (recordFor request lengths id place)
+      (writePackets packets r request lengths) ≡ trbsOf (e .periodic) request lengths
   asked-for (asks.Control kind request value index address size) short fits at =
-      control-asked kind request value index address size fits lengths id place short e none-stored (writePackets packets r (asks.Control kind request value index address size) lengths)
+      control-asked kind request value index address size fits lengths id place short e none-stored
+      (writePackets packets r (asks.Control kind request value index address size) lengths)
   asked-for (asks.Bulk incoming address size) short fits at =
       bulk-asked incoming address size lengths id place e (writePackets packets r (asks.Bulk incoming address size) lengths) short
   asked-for (asks.Interrupt incoming address size) short fits at =
@@ -228,10 +239,12 @@ control-count kind request value index address size incoming true q = rw q
 control-count kind request value index address size incoming false q = rw q
 
 pub trbs-count : (p : Periodic) (request : Request) (lengths : List ℕ) → length (trbsOf p request lengths) ≡ required request lengths
-trbs-count p (asks.Control kind request value index address size) lengths = control-count kind request value index address size (eqb (bits 7 1 kind) 1) (eqb size 0) refl
+trbs-count p (asks.Control kind request value index address size) lengths =
+    control-count kind request value index address size (eqb (bits 7 1 kind) 1) (eqb size 0) refl
 trbs-count p (asks.Bulk incoming address size) lengths = refl
 trbs-count p (asks.Interrupt incoming address size) lengths = refl
-trbs-count p (asks.Isoch incoming address size) lengths = isoch-count incoming (p .packet) (p .burst) (stored address size) (atLeastOne lengths) ∙ at-least lengths
+trbs-count p (asks.Isoch incoming address size) lengths =
+    isoch-count incoming (p .packet) (p .burst) (stored address size) (atLeastOne lengths) ∙ at-least lengths
 
 -- ---- none is a link
 
@@ -244,14 +257,16 @@ module _ (K : ℕ) where
   isoch-plain incoming packet burst address [] = tt
   isoch-plain incoming packet burst address (n ∷ ns) = (plain-trb _ (λ q. omega arith), isoch-plain incoming packet burst ((address + n) % 2 ^ 64) ns)
 
-  control-plain : (kind request value index address size : ℕ) (incoming : Bool) → Plain (flat K) (bared (controlTrbs kind request value index address size incoming))
+  control-plain : (kind request value index address size : ℕ) (incoming : Bool)
+      → Plain (flat K) (bared (controlTrbs kind request value index address size incoming))
   control-plain kind request value index address size incoming =
       picked (λ (l : List Trb). Plain (flat K) (bared l)) (eqb size 0) _ _
       (λ t. (plain-trb _ (λ q. omega arith), (plain-trb _ (λ q. omega arith), tt)))
       (λ t. (plain-trb _ (λ q. omega arith), (plain-trb _ (λ q. omega arith), (plain-trb _ (λ q. omega arith), tt))))
 
   pub trbs-plain : (p : Periodic) (request : Request) (lengths : List ℕ) → Plain (flat K) (bared (trbsOf p request lengths))
-  trbs-plain p (asks.Control kind request value index address size) lengths = control-plain kind request value index address size (eqb (bits 7 1 kind) 1)
+  trbs-plain p (asks.Control kind request value index address size) lengths =
+      control-plain kind request value index address size (eqb (bits 7 1 kind) 1)
   trbs-plain p (asks.Bulk incoming address size) lengths = (plain-trb _ (λ q. omega arith), tt)
   trbs-plain p (asks.Interrupt incoming address size) lengths = (plain-trb _ (λ q. omega arith), tt)
   trbs-plain p (asks.Isoch incoming address size) lengths = isoch-plain incoming (p .packet) (p .burst) (stored address size) (atLeastOne lengths)

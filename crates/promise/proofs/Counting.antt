@@ -36,7 +36,9 @@ module _ (n : ℕ) (first size : ℕ → ℕ) where
     grows zero owned = omega arith
     grows (suc k) owned =
         let o = owned (a + k) (omega arith) (omega arith) in
-        let more = sum-less n (o .owner) (part (a + k)) (part (suc (a + k))) (o .within) (owned-rises (a + k) (o .owner) (omega arith) (o .from) (o .to)) (λ r l. rises (a + k) r) in
+        let more =
+        sum-less n (o .owner) (part (a + k)) (part (suc (a + k))) (o .within)
+        (owned-rises (a + k) (o .owner) (omega arith) (o .from) (o .to)) (λ r l. rises (a + k) r) in
         let last : a + suc k ≡ suc (a + k) = omega arith in
         rw last (omega (arith, more, grows k (λ j h l. owned j h (omega arith))))
 

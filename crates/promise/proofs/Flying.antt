@@ -44,7 +44,8 @@ pub record Same (records after : List ℕ) : Type 0 where
 pub same-same : (records : List ℕ) → Same records records
 same-same records = record { alike = alike-same records; kind = λ r. refl; length = λ r. refl }
 
-same-set : (records : List ℕ) (r k value : ℕ) → k < recordWords → (k ≡ 1 → ⊥) → (k ≡ 6 → ⊥) → Alike records (setWord records r k value) → Same records (setWord records r k value)
+same-set : (records : List ℕ) (r k value : ℕ) → k < recordWords → (k ≡ 1 → ⊥) → (k ≡ 6 → ⊥)
+    → Alike records (setWord records r k value) → Same records (setWord records r k value)
 unfolding recordAt
 same-set records r k value small a b alike = record {
   alike = alike;
@@ -55,7 +56,8 @@ same-set records r k value small a b alike = record {
 -- A cancel,
 pub same-marked : (records : List ℕ) (f : Lookup) → Same records (marked records f)
 same-marked records lookup.Nothing = same-same records
-same-marked records (lookup.At r) = same-set records r cancelledWord 1 (omega arith) (λ e. omega arith) (λ e. omega arith) (marked-alike records (lookup.At r))
+same-marked records (lookup.At r) =
+    same-set records r cancelledWord 1 (omega arith) (λ e. omega arith) (λ e. omega arith) (marked-alike records (lookup.At r))
 
 -- and a reclaim.
 pub same-after : (f : Lookup) (records after : List ℕ) → RecordsAfter f records after → Same records after
@@ -160,7 +162,8 @@ idle-changes w k e records packets i s = record {
   heard-consumed = k .heard-consumed;
   places = k .places;
   flights = rw (i .account)
-      (flights-same (k .K) (w .dock .records) (w .dock .endpoint .account .occupancy) (w .first) (length (w .trbs)) (w .heard) (k .flights) records s);
+      (flights-same (k .K) (w .dock .records) (w .dock .endpoint .account .occupancy) (w .first) (length (w .trbs))
+      (w .heard) (k .flights) records s);
 }
 
 pub configured-kept : (w : World) (packet burst interval : ℕ) → Kept w → Kept (withDock w (afterConfigure (w .dock) packet burst interval))
@@ -171,7 +174,8 @@ configured-kept w packet burst interval k =
     (λ (p : plainNo e ≡ 0).
     let free : e .work .busy ≡ false = plain-exact e .passed p 1 (omega arith) in
     rw (configure-acts e packet burst interval p)
-    (idle-changes w k _ (w .dock .records) (w .dock .packets) (record { at = refl; shape = refl; account = refl; free = free; still = free }) (same-same (w .dock .records))))
+    (idle-changes w k _ (w .dock .records) (w .dock .packets) (record { at = refl; shape = refl; account = refl; free = free; still = free })
+    (same-same (w .dock .records))))
     (λ (p : plainNo e ≡ 0 → ⊥). rw (configure-refuses e packet burst interval p) k)
     (same-or-not (plainNo e) 0)
 
@@ -185,6 +189,7 @@ cancelled-kept w id k =
     let free : e .work .busy ≡ false = cancel-exact e records id .passed p 1 (omega arith) in
     rw (cancel-acts e records id p)
     (idle-changes w k e (marked records (findIn records (e .account .occupancy) id)) (w .dock .packets)
-    (record { at = refl; shape = refl; account = refl; free = free; still = free }) (same-marked records (findIn records (e .account .occupancy) id))))
+    (record { at = refl; shape = refl; account = refl; free = free; still = free })
+    (same-marked records (findIn records (e .account .occupancy) id))))
     (λ (p : cancelNo e records id ≡ 0 → ⊥). rw (cancel-refuses e records id p) k)
     (same-or-not (cancelNo e records id) 0)

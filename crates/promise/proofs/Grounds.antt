@@ -68,7 +68,8 @@ use Rattle.promise.proofs.Upcoming.{left-count}
 
 -- ---- outstanding
 
-pub outstanding-sum : {w : World} → Run w → w .dock .endpoint .account .outstanding ≡ flightSum (w .dock .records) (w .dock .endpoint .account .occupancy)
+pub outstanding-sum : {w : World} → Run w
+    → w .dock .endpoint .account .outstanding ≡ flightSum (w .dock .records) (w .dock .endpoint .account .occupancy)
 outstanding-sum r = outstanding-is-sum (run-reached r)
 
 -- ---- how many TRBs are stored
@@ -135,7 +136,8 @@ pub record EventOf (w : World) (i : ℕ) (event : Words) : Type 0 where
   pub consumed : number < length (w .consumed)
   pub coded : accepted (codeOf event) ≡ true
 
-pub event-latest : {w : World} → Run w → (i : ℕ) (event : Words) → i < slots w - 1 → finishedAt (w .dock .finished) i ≡ Event event → EventOf w i event
+pub event-latest : {w : World} → Run w → (i : ℕ) (event : Words) → i < slots w - 1 → finishedAt (w .dock .finished) i ≡ Event event
+    → EventOf w i event
 event-latest {w} r i event below said =
     let k = run-kept r in
     let l = k .places i event (omega (arith, k .shape)) said in
@@ -168,7 +170,8 @@ module _ (w : World) (k : Kept w) (busy : w .dock .endpoint .work .busy ≡ true
       omega (arith, few-wait w k, k .split)
 
   -- The setup is stored again in its own slot.
-  behind-setup : length (w .consumed) ≤ firstUnderWay w → slotOf (slots w) j ≡ w .dock .endpoint .work .place → (j < length (w .consumed)) ⊎ (j ≡ firstUnderWay w)
+  behind-setup : length (w .consumed) ≤ firstUnderWay w → slotOf (slots w) j ≡ w .dock .endpoint .work .place
+      → (j < length (w .consumed)) ⊎ (j ≡ firstUnderWay w)
   behind-setup unseen same =
       let b = k .begun busy in
       let first = firstUnderWay w in
@@ -185,15 +188,18 @@ front-short : {A : Type 0} (a l : List A) (n : ℕ) → Front a (take n l) → l
 front-short a l n f = omega (arith, length-append a (f .rest), ap length (f .whole), length-take n l)
 
 module _ (w : World) where
-  slot-of-link : nextStore (w .dock .endpoint) (w .dock .records) ≡ theLink → slotChanged (w .dock .endpoint) (w .dock .records) ≡ w .dock .endpoint .at .place
+  slot-of-link : nextStore (w .dock .endpoint) (w .dock .records) ≡ theLink
+      → slotChanged (w .dock .endpoint) (w .dock .records) ≡ w .dock .endpoint .at .place
   unfolding slotStored
   slot-of-link q = ap (λ (n : Next). slotStored n (w .dock .endpoint)) q
 
-  slot-of-trb : nextStore (w .dock .endpoint) (w .dock .records) ≡ theTrb → slotChanged (w .dock .endpoint) (w .dock .records) ≡ w .dock .endpoint .at .place
+  slot-of-trb : nextStore (w .dock .endpoint) (w .dock .records) ≡ theTrb
+      → slotChanged (w .dock .endpoint) (w .dock .records) ≡ w .dock .endpoint .at .place
   unfolding slotStored
   slot-of-trb q = ap (λ (n : Next). slotStored n (w .dock .endpoint)) q
 
-  slot-of-setup : nextStore (w .dock .endpoint) (w .dock .records) ≡ theSetup → slotChanged (w .dock .endpoint) (w .dock .records) ≡ w .dock .endpoint .work .place
+  slot-of-setup : nextStore (w .dock .endpoint) (w .dock .records) ≡ theSetup
+      → slotChanged (w .dock .endpoint) (w .dock .records) ≡ w .dock .endpoint .work .place
   unfolding slotStored
   slot-of-setup q = ap (λ (n : Next). slotStored n (w .dock .endpoint)) q
 
@@ -268,8 +274,11 @@ module _ (w : World) (r : ℕ) where
       let free = record-free e records packets request lengths p in
       let other : r ≡ recordTaken e → ⊥ = λ q. omega (arith, b .0, ap (bit (e .account .occupancy)) q) in
       rw (start-acts e records packets request lengths p)
-      (if-so (by-flies (startedRecords e records request lengths) (startedEndpoint e records request lengths .account .occupancy) r)
-      (record-taken e records packets request lengths p .others r other ∙ b .0, ap (λ (x : Record). x .state) (records-kept e records packets request lengths p r other) ∙ b .1)))
+      (if-so (by-flies (startedRecords e records request lengths) (startedEndpoint e records request lengths .account .occupancy) r) (
+        record-taken e records packets request lengths p .others r other ∙ b .0,
+        ap (λ (x : Record). x .state)
+            (records-kept e records packets request lengths p r other) ∙ b .1,
+      )))
       (λ (p : startNo e records (length packets) request lengths ≡ 0 → ⊥). rw (start-refuses e records packets request lengths p) fly)
       (same-or-not (startNo e records (length packets) request lengths) 0)
 
@@ -286,12 +295,14 @@ module _ (w : World) (r : ℕ) where
       let b = by-flies records occupancy r .so fly in
       ⊎-elim
       (λ (u : Untouched (w .dock) t).
-      absurd (false≢true (sym gone ∙ ap (λ (x : Endpoint). flies (t .1) (x .account .occupancy) r) (u .endpoint) ∙ ap (λ (x : List ℕ). flies x occupancy r) (u .records) ∙ fly)))
+      absurd (false≢true (sym gone ∙ ap (λ (x : Endpoint). flies (t .1) (x .account .occupancy) r) (u .endpoint)
+      ∙ ap (λ (x : List ℕ). flies x occupancy r) (u .records) ∙ fly)))
       (λ (u : Looked (w .dock) id t).
       let alike = u .touches .ownRecord .alike in
       ⊎-elim
       (λ (n : t .0 ≡ nothing e).
-      absurd (false≢true (sym gone ∙ ap (λ (x : ReclaimedOne). flies (t .1) (x .endpoint .account .occupancy) r) n ∙ flies-alike records (t .1) occupancy r alike ∙ fly)))
+      absurd (false≢true (sym gone ∙ ap (λ (x : ReclaimedOne). flies (t .1) (x .endpoint .account .occupancy) r) n
+      ∙ flies-alike records (t .1) occupancy r alike ∙ fly)))
       (λ (n : Left e (u .number) (flightPart records occupancy (u .number)) (t .0)).
       ⊎-elim
       (λ (q : r ≡ u .number).
@@ -313,10 +324,13 @@ pub leaves-consumed : {w : World} → Run w → (m : Move) → (r : ℕ) → inF
     → w .first r + recordAt (w .dock .records) r .count ≤ length (w .consumed)
 unfolding started handed stepped
 leaves-consumed {w} run (configures packet burst interval) r fly gone =
-    absurd (false≢true (sym gone ∙ ap (λ (a : Account). flies (w .dock .records) (a .occupancy) r) (configures-keeps w r packet burst interval) ∙ fly))
+    absurd (false≢true (sym gone ∙ ap (λ (a : Account). flies (w .dock .records) (a .occupancy) r)
+    (configures-keeps w r packet burst interval) ∙ fly))
 leaves-consumed {w} run (starts request lengths) r fly gone =
-    absurd (false≢true (sym gone ∙ picked (λ (x : World). inFlight x r ≡ true) (admits w request lengths) _ _ (λ t. starts-keeps w r request lengths fly) (λ t. starts-keeps w r request lengths fly)))
-leaves-consumed {w} run stores r fly gone = absurd (false≢true (sym gone ∙ ap (λ (a : Account). flies (w .dock .records) (a .occupancy) r) (stores-keeps w r) ∙ fly))
+    absurd (false≢true (sym gone ∙ picked (λ (x : World). inFlight x r ≡ true) (admits w request lengths) _ _
+    (λ t. starts-keeps w r request lengths fly) (λ t. starts-keeps w r request lengths fly)))
+leaves-consumed {w} run stores r fly gone =
+    absurd (false≢true (sym gone ∙ ap (λ (a : Account). flies (w .dock .records) (a .occupancy) r) (stores-keeps w r) ∙ fly))
 leaves-consumed {w} run (hands event number) r fly gone = absurd (false≢true (sym gone ∙ fly))
 leaves-consumed {w} run (reclaims id) r fly gone = reclaims-consumed w r (run-sound run) (run-kept run) id fly gone
 leaves-consumed {w} run (cancels id) r fly gone = absurd (false≢true (sym gone ∙ cancels-keeps w r id ∙ fly))

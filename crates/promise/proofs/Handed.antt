@@ -38,7 +38,8 @@ use Rattle.promise.proofs.Kept.{Kept, Under, rests, opens, shows, hides
 -- ---- with none under way
 
 -- The model's work is idle where the dock's is.
-pub at-rest : (K : ℕ) (e : Endpoint) (records packets : List ℕ) (mark before : ℕ) (work : model.Work (flat K)) → Under K e records packets mark before work
+pub at-rest : (K : ℕ) (e : Endpoint) (records packets : List ℕ) (mark before : ℕ) (work : model.Work (flat K))
+    → Under K e records packets mark before work
     → e .work .busy ≡ false → work ≡ idle
 at-rest K e records packets mark before work (rests u) free = u .is
 at-rest K e records packets mark before work (opens u) free = absurd (false≢true (sym free ∙ u .taken))
@@ -47,7 +48,8 @@ at-rest K e records packets mark before work (hides u) free = absurd (false≢tr
 
 pub idle-kept : (w : World) (k : Kept w) → w .dock .endpoint .work .busy ≡ false → k .work ≡ idle
 idle-kept w k free =
-    at-rest (k .K) (w .dock .endpoint) (w .dock .records) (w .dock .packets) (w .first (w .dock .endpoint .work .number)) (k .before) (k .work) (k .under) free
+    at-rest (k .K) (w .dock .endpoint) (w .dock .records) (w .dock .packets) (w .first (w .dock .endpoint .work .number))
+    (k .before) (k .work) (k .under) free
 
 -- Then all is stored that is admitted.
 pub all-stored : (w : World) (k : Kept w) → w .dock .endpoint .work .busy ≡ false → k .stored ≡ length (w .trbs)
@@ -82,7 +84,8 @@ same-event a b e = cc
 
 module _ (K : ℕ) (finished : List ℕ) (stored heard n : ℕ) (event : Words)
     (room : 4 * (pos K n) .place + 4 ≤ length finished) (typed : event .w3 ≡ 0 → ⊥)
-    (before : heard ≤ n) (was : n < stored) (last : stored ≤ n + K) (fine : accepted (codeOf event) ≡ true) (old : Places K finished stored heard) where
+    (before : heard ≤ n) (was : n < stored) (last : stored ≤ n + K) (fine : accepted (codeOf event) ≡ true)
+    (old : Places K finished stored heard) where
   abbrev place : ℕ
   place = (pos K n) .place
 
@@ -92,7 +95,15 @@ module _ (K : ℕ) (finished : List ℕ) (stored heard n : ℕ) (event : Words)
       ⊎-elim
       (λ (empty : getD finished (4 * place + 3) 0 ≡ 0).
       let same = same-event event e (sym (taken finished place room event empty typed) ∙ said) in
-      record { latest = n; there = refl; was-stored = was; not-again = last; was-heard = omega arith; fine = subst (λ (x : Words). accepted (codeOf x) ≡ true) same fine })
+      record {
+        latest =
+            n;
+        there = refl;
+        was-stored = was;
+        not-again = last;
+        was-heard = omega arith;
+        fine = subst (λ (x : Words). accepted (codeOf x) ≡ true) same fine;
+      })
       (λ (full : getD finished (4 * place + 3) 0 ≡ 0 → ⊥).
       latest-heard K stored heard (suc n) place e (omega arith)
       (old place e l (ap (λ (x : List ℕ). finishedAt x place) (sym (kept finished place room event full)) ∙ said)))
@@ -110,7 +121,8 @@ module _ (K : ℕ) (finished : List ℕ) (stored heard n : ℕ) (event : Words)
   pub filled : Places K (fillPlace finished place event) stored (suc n)
   filled i e l said =
       ⊎-elim
-      (λ (q : i ≡ place). subst (λ (x : ℕ). Latest K stored (suc n) x e) (sym q) (here e (subst (λ (x : ℕ). finishedAt (fillPlace finished place event) x ≡ Event e) q said) (subst (λ (x : ℕ). x < K) q l)))
+      (λ (q : i ≡ place). subst (λ (x : ℕ). Latest K stored (suc n) x e) (sym q)
+      (here e (subst (λ (x : ℕ). finishedAt (fillPlace finished place event) x ≡ Event e) q said) (subst (λ (x : ℕ). x < K) q l)))
       (λ (d : i ≡ place → ⊥). latest-heard K stored heard (suc n) i e (omega arith) (old i e l (sym (elsewhere i d) ∙ said)))
       (same-or-not i place)
 
@@ -125,7 +137,8 @@ pub is-for : (w : World) (event : Words) (n : ℕ) → isFor w event n ≡ true 
 unfolding isFor
 is-for w event n t =
     let a = both (both (both (by-leb (w .heard) n) (by-ltb n (length (w .consumed))))
-    (by-eqb (eventOf event .address) (slotAddress (w .dock .endpoint .shape .base) (slotAt (w .consumed) n)))) (by-true (accepted (codeOf event))) .so t in
+    (by-eqb (eventOf event .address) (slotAddress (w .dock .endpoint .shape .base) (slotAt (w .consumed) n))))
+    (by-true (accepted (codeOf event))) .so t in
     record { after = a .0 .0 .0; consumed = a .0 .0 .1; address = a .0 .1; fine = a .1 }
 
 module _ (w : World) (event : Words) (n : ℕ) (h : Sound (w .dock)) (k : Kept w) where
@@ -136,7 +149,8 @@ module _ (w : World) (event : Words) (n : ℕ) (h : Sound (w .dock)) (k : Kept w
   some-place = omega (arith, k .some-slot)
 
   taken-kept : handOverNo e (length (w .dock .finished)) event ≡ 0 → IsFor w event n
-      → Kept (withHeard w (stateOf e (w .dock .ring) (fillPlace (w .dock .finished) (slotNumber (slotFor e event)) event) (w .dock .records) (w .dock .packets)) (suc n))
+      → Kept (withHeard w (stateOf e (w .dock .ring) (fillPlace (w .dock .finished) (slotNumber (slotFor e event)) event)
+      (w .dock .records) (w .dock .packets)) (suc n))
   unfolding handOverTests slotFor
   taken-kept passed f =
       let tests = hand-over-exact e (w .dock .finished) event .passed passed in
@@ -145,14 +159,16 @@ module _ (w : World) (event : Words) (n : ℕ) (h : Sound (w .dock)) (k : Kept w
       let place : ℕ = (pos (k .K) n) .place in
       let small : place < k .K = slot-lt (k .K) some-place n in
       let at : slotNumber (slotFor e event) ≡ place =
-      ap (λ (a : ℕ). slotNumber (slotOf (e .shape .base) (e .shape .slots) a)) (f .address ∙ ap (slotAddress (e .shape .base)) (consumed-at w k n (f .consumed)))
+      ap (λ (a : ℕ). slotNumber (slotOf (e .shape .base) (e .shape .slots) a))
+      (f .address ∙ ap (slotAddress (e .shape .base)) (consumed-at w k n (f .consumed)))
       ∙ ap slotNumber (slot-found (e .shape .base) (e .shape .slots) place (omega (arith, k .shape))) in
       let all = all-stored w k free in
       let long = h .finishedLong in
       let most = awaited w h k in
       let room = k .inv .room in
       let new : Places (k .K) (fillPlace (w .dock .finished) place event) (k .stored) (suc n) =
-      filled (k .K) (w .dock .finished) (k .stored) (w .heard) n event (omega (arith, k .shape)) (typed-word event (λ t. by-foreign e event .not-so ours (inl (inl (inl t)))))
+      filled (k .K) (w .dock .finished) (k .stored) (w .heard) n event (omega (arith, k .shape))
+      (typed-word event (λ t. by-foreign e event .not-so ours (inl (inl (inl t)))))
       (f .after) (omega (arith, f .consumed, consumed-few w k)) (omega (arith, f .after)) (f .fine) (k .places) in
       rw at
       (record {
@@ -170,7 +186,9 @@ module _ (w : World) (event : Words) (n : ℕ) (h : Sound (w .dock)) (k : Kept w
         split = k .split;
         heard-consumed = f .consumed;
         places = new;
-        flights = flights-heard (k .K) (w .dock .records) (e .account .occupancy) (w .first) (length (w .trbs)) (w .heard) (suc n) (omega (arith, f .after)) (k .flights);
+        flights =
+            flights-heard (k .K) (w .dock .records) (e .account .occupancy) (w .first) (length (w .trbs)) (w .heard)
+            (suc n) (omega (arith, f .after)) (k .flights);
       })
 
   -- A refused event is not bound, and changes nothing.

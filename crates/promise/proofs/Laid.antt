@@ -66,7 +66,8 @@ bared-append [] us = refl
 bared-append (t ∷ ts) us = ap (λ (l : List Words). bare t ∷ l) (bared-append ts us)
 
 -- A store of a TRB, where the ring has the slot.
-pub store-is : (ring : List ℕ) (place : ℕ) (t : Trb) (c : Bool) → 4 * place + 4 ≤ length ring → setSlot ring place (setCycle c (bare t)) ≡ storeAt ring place t c
+pub store-is : (ring : List ℕ) (place : ℕ) (t : Trb) (c : Bool) → 4 * place + 4 ≤ length ring
+    → setSlot ring place (setCycle c (bare t)) ≡ storeAt ring place t c
 unfolding storeAt
 store-is ring place t c h = slot-stored ring place (setCycle c (bare t)) h ∙ ap (λ (w : Words). putWords ring place w) (cycle-given c false t)
 

@@ -1,12 +1,12 @@
 -- Making: the invariant holds of a dock that is made, with its controller at the outset. Assumes nothing.
-use Prim.Native.Nat.{ℕ, zero, suc, _+_, _-_, _*_}
+use Prim.Native.Nat.{ℕ, suc, _+_, _-_, _*_}
 use mathlib.Core.Bool.{false≢true}
 use mathlib.Core.List.{List}
 use mathlib.Core.Logic.{⊎-elim}
 use mathlib.Core.Path.{_≡_, refl, sym, ap, _∙_}
 use native.Mathlib.Omega.{arith}
 use borrow.Author.Tests.{not-false}
-use lib.ListN.{length, getD, replicate}
+use lib.ListN.{length, replicate}
 use Rattle.base.proofs.Compare.{same-or-not}
 use Rattle.mask.proofs.BitLaws.{bit-none}
 use Rattle.trb.specs.Cycle.{typeOf}
@@ -22,7 +22,7 @@ use Rattle.dock.proofs.InvariantLaws.{not-done}
 use Rattle.dock.proofs.Reached.{stateOf}
 use Rattle.dock.proofs.RefusalLaws.{make-exact, make-refuses, make-acts}
 use Rattle.dock.proofs.TestLaws.{by-limits, by-sized}
-use Rattle.order.specs.Flat.{flat, zeroed}
+use Rattle.order.specs.Flat.{flat, getD-zeros, zeroed}
 use Rattle.order.specs.Model.{idle}
 use Rattle.order.specs.Model as model
 use Rattle.order.proofs.Moves.{made-keeps}
@@ -30,12 +30,7 @@ use Rattle.order.proofs.Numbers.{made-numbered}
 use Rattle.promise.specs.Run.{fromMaking, madeOf}
 use Rattle.promise.proofs.Kept.{Kept, rests}
 
--- A place of zeros is empty.
-getD-zeros : (n i : ℕ) → _≡_ {A = ℕ} (getD (replicate n 0) i 0) 0
-getD-zeros zero i = refl
-getD-zeros (suc n) zero = refl
-getD-zeros (suc n) (suc i) = getD-zeros n i
-
+-- A place of zeros is empty,
 empty : (n i : ℕ) → finishedAt (replicate n 0) i ≡ Nothing
 unfolding finishedAt
 empty n i = rw (getD-zeros n (4 * i + 3))

@@ -52,7 +52,8 @@ module _ (w : World) (k : Kept w) where
       rw (← admitted-is, ← d .1) (inv-deferred-unseen m (k .inv) (d .0))
 
 -- The model's steps are the controller's.
-steps-are : (K n : ℕ) (w : World) (before : ℕ) (work : model.Work (flat K)) → model.steps n (modelIn K w before work) ≡ modelIn K (stepping n w) before work
+steps-are : (K n : ℕ) (w : World) (before : ℕ) (work : model.Work (flat K))
+    → model.steps n (modelIn K w before work) ≡ modelIn K (stepping n w) before work
 unfolding model.steps stepping
 steps-are K zero w before work = refl
 steps-are K (suc n) w before work = ap (model.steps n) (step-is K w before work) ∙ steps-are K n (stepped w) before work

@@ -19,7 +19,8 @@ act-reached : (w : World) (m : Move) → Reached (w .dock) → Reached (act w m 
 unfolding started handed stepped
 act-reached w (configures packet burst interval) r = reached.configured r packet burst interval
 act-reached w (starts request lengths) r =
-    picked (λ (x : World). Reached (x .dock)) (admits w request lengths) _ _ (λ t. reached.started r request lengths) (λ t. reached.started r request lengths)
+    picked (λ (x : World). Reached (x .dock)) (admits w request lengths) _ _ (λ t. reached.started r request lengths)
+    (λ t. reached.started r request lengths)
 act-reached w stores r = reached.stored r
 act-reached w (hands event number) r = reached.handed r event
 act-reached w (reclaims id) r = reached.reclaimed r id
@@ -27,7 +28,8 @@ act-reached w (cancels id) r = reached.cancelled r id
 act-reached w steps r = r
 
 pub run-reached : {w : World} → Run w → Reached (w .dock)
-run-reached (made ring finished records packets slots base mask slot dci done) = reached.made ring finished records packets slots base mask slot dci done
+run-reached (made ring finished records packets slots base mask slot dci done) =
+    reached.made ring finished records packets slots base mask slot dci done
 run-reached (andThen {w} r m allowed) = act-reached w m (run-reached r)
 
 pub run-sound : {w : World} → Run w → Sound (w .dock)

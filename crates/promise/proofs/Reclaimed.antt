@@ -83,7 +83,8 @@ module _ (w : World) (h : Sound (w .dock)) (k : Kept w) (id : ℕ) where
   over-heard free n v holds o =
       let last : ℕ = n + (v .count - 1) in
       let at : placeOf (e .shape .slots) (v .place) (v .count - 1) ≡ (pos (k .K) last) .place =
-      ap (λ (x : ℕ). placeOf (e .shape .slots) x (v .count - 1)) (sym (holds .begins)) ∙ place-behind (k .K) some-place (e .shape .slots) (k .shape) n (v .count - 1) in
+      ap (λ (x : ℕ). placeOf (e .shape .slots) x (v .count - 1)) (sym (holds .begins)) ∙ place-behind
+      (k .K) some-place (e .shape .slots) (k .shape) n (v .count - 1) in
       let said = rw at at (o .there) in
       let latest = k .places ((pos (k .K) last) .place) (o .event) (slot-lt (k .K) some-place last) said in
       let was : last < k .stored = omega (arith, all-stored w k free, holds .ends, holds .counts .some) in
@@ -118,14 +119,16 @@ module _ (w : World) (h : Sound (w .dock)) (k : Kept w) (id : ℕ) where
       (λ (q : reclaimFlying e (w .dock .finished) records (w .dock .packets) v r .0 ≡ nothing e).
       absurd (false≢true (sym (ap (λ (x : ReclaimedOne). final (x .answer)) (ap (λ (t : ReclaimedOne × List ℕ × List ℕ). t .0) is ∙ q)) ∙ over)))
       (λ (o : Over (e .shape .slots) (w .dock .finished) v). over-heard free (w .first r) v holds o)
-      (flying-out (k .K) some-place e (k .shape) (w .dock .finished) (λ i event l said. k .places i event l said .fine) v low r (holds .counts) records (w .dock .packets))
+      (flying-out (k .K) some-place e (k .shape) (w .dock .finished) (λ i event l said. k .places i event l said .fine) v low r
+      (holds .counts) records (w .dock .packets))
 
   -- ---- what the reclaim leaves
 
   -- The record is freed and its TRBs taken off: those that stay outstanding cover what no event has passed, and so what is not consumed.
   left-kept : (r : ℕ) (halts : Bool) (records packets : List ℕ) → r < recordCount → e .work .busy ≡ false → Same (w .dock .records) records
       → (flies (w .dock .records) (e .account .occupancy) r ≡ true → w .first r + recordAt (w .dock .records) r .count ≤ w .heard)
-      → Kept (withDock w (stateOf (leave e r (flightPart (w .dock .records) (e .account .occupancy) r) halts) (w .dock .ring) (w .dock .finished) records packets))
+      → Kept (withDock w (stateOf (leave e r (flightPart (w .dock .records) (e .account .occupancy) r) halts)
+      (w .dock .ring) (w .dock .finished) records packets))
   unfolding leave model.free
   left-kept r halts records packets within free same passed =
       let K = k .K in
@@ -169,7 +172,9 @@ module _ (w : World) (h : Sound (w .dock)) (k : Kept w) (id : ℕ) where
   pub reclaimed-kept : Kept (withDock w (afterReclaim (w .dock) id))
   reclaimed-kept =
       let t = result in
-      let same = same-after (findIn (w .dock .records) (e .account .occupancy) id) (w .dock .records) (t .1) (reclaim-records e (w .dock .finished) (w .dock .records) (w .dock .packets) id) in
+      let same =
+      same-after (findIn (w .dock .records) (e .account .occupancy) id) (w .dock .records) (t .1)
+      (reclaim-records e (w .dock .finished) (w .dock .records) (w .dock .packets) id) in
       ⊎-elim
       (λ (u : Untouched (w .dock) t). rw (u .endpoint, u .records, u .packets) k)
       (λ (u : Looked (w .dock) id t).

@@ -86,7 +86,8 @@ module _ (K : ℕ) (some-place : 0 < K) (e : Endpoint) (shape : e .shape .slots 
 
   data-fine : (event : Words) → dataSeen e finished v ≡ place.Event event → accepted (codeOf event) ≡ true
   data-fine event =
-      picked (λ (f : Finished). f ≡ place.Event event → accepted (codeOf event) ≡ true) (eqb (v .length) 0) place.Nothing (finishedAt finished (dataPlace e v))
+      picked (λ (f : Finished). f ≡ place.Event event → accepted (codeOf event) ≡ true) (eqb (v .length) 0) place.Nothing
+      (finishedAt finished (dataPlace e v))
       (λ t q. let z : _≡_ {A = ℕ} 0 1 = cc in absurd (omega arith))
       (λ t q. fine (dataPlace e v) event (place-low 1) q)
 
@@ -94,7 +95,8 @@ module _ (K : ℕ) (some-place : 0 < K) (e : Endpoint) (shape : e .shape .slots 
   last-of-control true q = omega arith
   last-of-control false q = omega arith
 
-  by-status : v .count ≡ pick (eqb (v .length) 0) 2 3 → (f : Finished) (recorded : ℕ) → finishedAt finished (statusPlace e v) ≡ f → Out (statusBy f e v number recorded)
+  by-status : v .count ≡ pick (eqb (v .length) 0) 2 3 → (f : Finished) (recorded : ℕ) → finishedAt finished (statusPlace e v) ≡ f
+      → Out (statusBy f e v number recorded)
   by-status two place.Nothing recorded said = inl refl
   by-status two (place.Event event) recorded said = inr (over-at (pick (eqb (v .length) 0) 1 2) event (last-of-control (eqb (v .length) 0) two) said)
 
@@ -127,7 +129,8 @@ module _ (K : ℕ) (some-place : 0 < K) (e : Endpoint) (shape : e .shape .slots 
     by-place place.Nothing said = onwards packets
     by-place (place.Event event) said =
         let asked = packetAt packets number k .requested in
-        rw (worth-counts asked (remainingOf event) (codeOf event) (accepted-counts (codeOf event) (fine (placeOf (e .shape .slots) (v .place) k) event (place-low k) said)))
+        rw (worth-counts asked (remainingOf event) (codeOf event)
+        (accepted-counts (codeOf event) (fine (placeOf (e .shape .slots) (v .place) k) event (place-low k) said)))
         (by-event event said (asked - remainingOf event))
 
   walked : (n k : ℕ) (packets : List ℕ) → Walked (sweep (e .shape .slots) finished v number n k packets)
@@ -165,5 +168,6 @@ module _ (K : ℕ) (some-place : 0 < K) (e : Endpoint) (shape : e .shape .slots 
       (λ s. iso-out packets)
       (λ s. picked (λ (x : ReclaimedOne × List ℕ × List ℕ). Out (x .0)) (eqb (v .kind) bulk || eqb (v .kind) interrupt) _ _
       (λ u. bulk-out
-      (⊎-elim (λ (q : v .kind ≡ bulk). c .of-bulk q) (λ (q : v .kind ≡ interrupt). c .of-interrupt q) (either (by-eqb (v .kind) bulk) (by-eqb (v .kind) interrupt) .so u)))
+      (⊎-elim (λ (q : v .kind ≡ bulk). c .of-bulk q) (λ (q : v .kind ≡ interrupt). c .of-interrupt q)
+      (either (by-eqb (v .kind) bulk) (by-eqb (v .kind) interrupt) .so u)))
       (λ u. inl refl)))

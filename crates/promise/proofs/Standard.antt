@@ -41,7 +41,8 @@ module _ (w : World) (h : Sound (w .dock)) (k : Kept w) where
   link-at : owned t c ≡ true → typeOf t ≡ 6 → c .slot ≡ k .K
   unfolding owned linkType
   link-at own is =
-      by (view (flat (k .K)) (omega (arith, k .some-slot)) (w .dock .ring) (positionOf (w .dock .endpoint .at)) (k .inv .C) (k .inv .E) (k .inv .P) (k .inv .hidden) (pointerOf c) (k .inv .queue) (k .inv .good))
+      by (view (flat (k .K)) (omega (arith, k .some-slot)) (w .dock .ring) (positionOf (w .dock .endpoint .at))
+      (k .inv .C) (k .inv .E) (k .inv .P) (k .inv .hidden) (pointerOf c) (k .inv .queue) (k .inv .good))
     where
       by : View (flat (k .K)) (w .dock .ring) (pointerOf c) (k .inv .C) (k .inv .queue) → c .slot ≡ k .K
       by (waits other none-left) = absurd (not-other (cycleOf t) (c .state) own other)
@@ -71,5 +72,6 @@ module _ (w : World) (h : Sound (w .dock)) (k : Kept w) where
       (true-or-false (eqb (typeOf t) 6))
 
 pub as-the-standard : {w : World} → Run w → owned (wordsAt (w .dock .ring) (w .controller .slot)) (w .controller) ≡ true
-    → goes (does (w .dock .ring) (w .controller)) (w .controller) ≡ past (w .dock .endpoint .shape .base) (wordsAt (w .dock .ring) (w .controller .slot)) (w .controller)
+    → goes (does (w .dock .ring) (w .controller)) (w .controller) ≡ past (w .dock .endpoint .shape .base)
+    (wordsAt (w .dock .ring) (w .controller .slot)) (w .controller)
 as-the-standard {w} r own = kept-goes w (run-sound r) (run-kept r) own

@@ -17,7 +17,7 @@ use Rattle.ids.proofs.AnyLaws.{true-or-false}
 use Rattle.mask.specs.Bit.{bit}
 use Rattle.trb.specs.declared.Trb.{Trb}
 use Rattle.trb.specs.declared.Words.{Words}
-use Rattle.table.specs.Records.{inFlight, recordAt}
+use Rattle.table.specs.Records.{control, inFlight, recordAt}
 use Rattle.table.specs.declared.records.Record.{Record}
 use Rattle.dock.specs.declared.Endpoint.{Endpoint}
 use Rattle.dock.specs.declared.Request.{Request}
@@ -86,7 +86,8 @@ record-counts (asks.Isoch incoming address size) lengths id place = record {
 module _ (K : ℕ) (records after : List ℕ) (occupancy mask : ℕ) (first : ℕ → ℕ) (total heard r : ℕ) (v : Record)
     (within : r < recordCount) (clear : bit occupancy r ≡ 0) (set : bit mask r ≡ 1) (others : (q : ℕ) → (q ≡ r → ⊥) → bit mask q ≡ bit occupancy q)
     (written : recordAt after r ≡ v) (kept : (q : ℕ) → (q ≡ r → ⊥) → recordAt after q ≡ recordAt records q)
-    (flying : v .state ≡ inFlight) (at : (pos K total) .place ≡ v .place) (counts : Counts v) (f : Flights K records occupancy first total heard) where
+    (flying : v .state ≡ inFlight) (at : (pos K total) .place ≡ v .place) (counts : Counts v)
+    (f : Flights K records occupancy first total heard) where
   abbrev firsts : ℕ → ℕ
   firsts = withFirst first r total
 
@@ -115,7 +116,8 @@ module _ (K : ℕ) (records after : List ℕ) (occupancy mask : ℕ) (first : �
       (λ (e : q ≡ r).
       subst (λ (x : ℕ). Holds K (total + v .count) (firsts x) (recordAt after x)) (sym e)
       (rw (here-first, written) (record { begins = at; ends = omega arith; counts = counts })))
-      (λ (d : q ≡ r → ⊥). rw (other-first q d, kept q d) (holds-more total (total + v .count) (first q) (recordAt records q) (omega arith) (f .each q l (was-flying q d fly))))
+      (λ (d : q ≡ r → ⊥). rw (other-first q d, kept q d)
+      (holds-more total (total + v .count) (first q) (recordAt records q) (omega arith) (f .each q l (was-flying q d fly))))
       (same-or-not q r)
 
   all-taken : (j : ℕ) → heard ≤ j → j < total + v .count → Owner after mask firsts j
@@ -154,45 +156,32 @@ module _ (K : ℕ) (e : Endpoint) (request : Request) (t : Trb) (ts : List Trb) 
   abbrev tdOf : Td (flat K)
   tdOf = record { first = bare t; rest = bared ts; link = linkWords e; deferred = deferred request }
 
--- What is under way after a start, by the kind of the request.
-under-way : (K : ℕ) (e : Endpoint) (records packets : List ℕ) (mark before : ℕ) (request : Request) (lengths : List ℕ) (id place : ℕ) (t : Trb) (ts : List Trb)
-    → recordAt records (e .work .number) ≡ recordFor request lengths id place
-    → e .work .busy ≡ true → e .work .stored ≡ 0 → record { place = e .work .place; cycle = e .work .cycle } ≡ positionOf (e .at) → before ≡ mark
-    → left K e records packets ≡ bare t ∷ bared ts
-    → Under K e records packets mark before (starts (tdOf K e request t ts) (deferred request))
-under-way K e records packets mark before (asks.Control kind request value index address size) lengths id place t ts written taken none-stored at marked are =
-    opens (record {
-      taken = taken;
-      kind = ap (λ (x : Record). x .kind) written;
-      none-stored = none-stored;
-      at-setup = at;
-      setup = bare t;
-      others = bared ts;
-      left-are = are;
-      marked = marked;
-      is = refl;
-    })
-under-way K e records packets mark before (asks.Bulk incoming address size) lengths id place t ts written taken none-stored at marked are =
-    shows (record {
-      taken = taken;
-      kind = λ q. omega (arith, ap (λ (x : Record). x .kind) written);
-      counted = omega arith;
-      is = ap (λ (l : List Words). busy l (linkWords e) none) (sym are);
-    })
-under-way K e records packets mark before (asks.Interrupt incoming address size) lengths id place t ts written taken none-stored at marked are =
-    shows (record {
-      taken = taken;
-      kind = λ q. omega (arith, ap (λ (x : Record). x .kind) written);
-      counted = omega arith;
-      is = ap (λ (l : List Words). busy l (linkWords e) none) (sym are);
-    })
-under-way K e records packets mark before (asks.Isoch incoming address size) lengths id place t ts written taken none-stored at marked are =
-    shows (record {
-      taken = taken;
-      kind = λ q. omega (arith, ap (λ (x : Record). x .kind) written);
-      counted = omega arith;
-      is = ap (λ (l : List Words). busy l (linkWords e) none) (sym are);
-    })
+-- What is under way after a start: a control request opens; of any other the first TRB will be the controller's at once.
+module _ (K : ℕ) (e : Endpoint) (records packets : List ℕ) (mark before : ℕ) (lengths : List ℕ) (id place : ℕ) (t : Trb) (ts : List Trb)
+    (taken : e .work .busy ≡ true) (none-stored : e .work .stored ≡ 0) (are : left K e records packets ≡ bare t ∷ bared ts) where
+  shown : (recordAt records (e .work .number) .kind ≡ control → ⊥)
+      → Under K e records packets mark before (busy (bare t ∷ bared ts) (linkWords e) none)
+  shown other =
+      shows (record { taken = taken; kind = other; counted = omega arith; is = ap (λ (l : List Words). busy l (linkWords e) none) (sym are) })
+
+  under-way : (request : Request) → recordAt records (e .work .number) ≡ recordFor request lengths id place
+      → record { place = e .work .place; cycle = e .work .cycle } ≡ positionOf (e .at) → before ≡ mark
+      → Under K e records packets mark before (starts (tdOf K e request t ts) (deferred request))
+  under-way (asks.Control kind request value index address size) written at marked =
+      opens (record {
+        taken = taken;
+        kind = ap (λ (x : Record). x .kind) written;
+        none-stored = none-stored;
+        at-setup = at;
+        setup = bare t;
+        others = bared ts;
+        left-are = are;
+        marked = marked;
+        is = refl;
+      })
+  under-way (asks.Bulk incoming address size) written at marked = shown (λ q. omega (arith, ap (λ (x : Record). x .kind) written))
+  under-way (asks.Interrupt incoming address size) written at marked = shown (λ q. omega (arith, ap (λ (x : Record). x .kind) written))
+  under-way (asks.Isoch incoming address size) written at marked = shown (λ q. omega (arith, ap (λ (x : Record). x .kind) written))
 
 -- ---- an admitted start
 
@@ -244,10 +233,12 @@ module _ (w : World) (request : Request) (lengths : List ℕ) (h : Sound (w .doc
   to-store : left (k .K) begunWith records packets ≡ bared trbs
   unfolding startedEndpoint
   to-store =
-      let count : trbCount (recordFor request lengths id (e .at .place)) - 0 ≡ required request lengths = omega (arith, count-is request lengths id (e .at .place) (s .short)) in
+      let count : trbCount (recordFor request lengths id (e .at .place)) - 0 ≡ required request lengths =
+      omega (arith, count-is request lengths id (e .at .place) (s .short)) in
       rw (written, count)
       (ap bared
-      (asked-for lengths id (e .at .place) r (w .dock .packets) (h .packetsLong) (record-below e old (w .dock .packets) request lengths passed) begunWith refl refl request (s .short) fits refl))
+      (asked-for lengths id (e .at .place) r (w .dock .packets) (h .packetsLong)
+      (record-below e old (w .dock .packets) request lengths passed) begunWith refl refl request (s .short) fits refl))
 
   started-with : (t : Trb) (ts : List Trb) → trbs ≡ t ∷ ts
       → Kept (withTrbs w (stateOf begunWith (w .dock .ring) (w .dock .finished) records packets) r trbs)
@@ -271,14 +262,18 @@ module _ (w : World) (request : Request) (lengths : List ℕ) (h : Sound (w .doc
       } in
       let inv = begin-keeps some-place m (k .inv) td may in
       let num = begin-numbered some-place m (k .inv) td still (bared (w .trbs)) (k .numbered) in
-      let joined : bared (w .trbs) ++ bare t ∷ bared ts ≡ bared (w .trbs ++ trbs) = sym (bared-append (w .trbs) trbs ∙ ap (λ (l : List Trb). bared (w .trbs) ++ bared l) are) in
-      let same : begin m td ≡ modelIn K (withTrbs w (stateOf begunWith (w .dock .ring) (w .dock .finished) records packets) r trbs) before (starts td (deferred request)) =
+      let joined : bared (w .trbs) ++ bare t ∷ bared ts ≡ bared (w .trbs ++ trbs) =
+      sym (bared-append (w .trbs) trbs ∙ ap (λ (l : List Trb). bared (w .trbs) ++ bared l) are) in
+      let same : begin m td ≡ modelIn K (withTrbs w (stateOf begunWith (w .dock .ring) (w .dock .finished) records packets) r trbs) before
+      (starts td (deferred request)) =
       ap₂ (λ (a : List (model.Entry (flat K))) (o : ℕ). model.booked m (starts td (deferred request)) a before o)
       (num .by-number ∙ ap (model.layout (flat K) (pos K 0)) joined) (omega arith) in
       let all = all-stored w k (s .resting) in
       let here : withFirst (w .first) r total r ≡ total = (let q : eqb r r ≡ true = eq-eqb r r refl in rw q refl) in
-      let its : trbCount (recordAt records r) ≡ required request lengths = ap trbCount written ∙ count-is request lengths id (e .at .place) (s .short) in
-      let last : withFirst (w .first) r total r + trbCount (recordAt records r) ≡ length (w .trbs ++ trbs) = omega (arith, length-append (w .trbs) trbs) in
+      let its : trbCount (recordAt records r) ≡ required request lengths =
+      ap trbCount written ∙ count-is request lengths id (e .at .place) (s .short) in
+      let last : withFirst (w .first) r total r + trbCount (recordAt records r) ≡ length (w .trbs ++ trbs) =
+      omega (arith, length-append (w .trbs) trbs) in
       let taken-bits = record-taken e old (w .dock .packets) request lengths passed in
       let longer : length (w .trbs ++ trbs) ≡ total + required request lengths = omega (arith, length-append (w .trbs) trbs) in
       record {
@@ -291,18 +286,21 @@ module _ (w : World) (request : Request) (lengths : List ℕ) (h : Sound (w .doc
         inv = subst (λ (x : model.State (flat K)). Inv x) same inv;
         numbered = subst (λ (x : model.State (flat K)). Numbered x (bared (w .trbs ++ trbs))) same (rw joined at num);
         under =
-            under-way K begunWith records packets (withFirst (w .first) r total r) before request lengths id (e .at .place) t ts written refl refl refl
-            (length-layout (flat K) (pos K 0) (bared (w .trbs)) ∙ bared-length (w .trbs) ∙ sym here)
-            (to-store ∙ ap bared are);
+            under-way K begunWith records packets (withFirst (w .first) r total r) before lengths id
+            (e .at .place) t ts refl refl (to-store ∙ ap bared are) request written refl
+            (length-layout (flat K) (pos K 0) (bared (w .trbs)) ∙ bared-length (w .trbs) ∙ sym here);
         begun = λ b. record { last = last; first-at = ap (λ (n : ℕ). (pos K n) .place) here ∙ producer-at };
         stored = k .stored;
         split = rw (starts-pending td (deferred request)) (omega arith);
         heard-consumed = k .heard-consumed;
         places = k .places;
         flights = rw longer
-            (flights-taken K old records (e .account .occupancy) (begunWith .account .occupancy) (w .first) total (w .heard) r (recordFor request lengths id (e .at .place))
-            (record-below e old (w .dock .packets) request lengths passed) (record-free e old (w .dock .packets) request lengths passed) (taken-bits .here) (taken-bits .others)
-            written (records-kept e old (w .dock .packets) request lengths passed) refl producer-at (record-counts request lengths id (e .at .place)) (k .flights));
+            (flights-taken K old records (e .account .occupancy) (begunWith .account .occupancy) (w .first) total
+            (w .heard) r (recordFor request lengths id (e .at .place))
+            (record-below e old (w .dock .packets) request lengths passed) (record-free e old (w .dock .packets) request lengths passed)
+            (taken-bits .here) (taken-bits .others)
+            written (records-kept e old (w .dock .packets) request lengths passed) refl producer-at
+            (record-counts request lengths id (e .at .place)) (k .flights));
       }
 
   pub admitted-kept : Kept (withTrbs w (stateOf begunWith (w .dock .ring) (w .dock .finished) records packets) r trbs)
@@ -312,7 +310,8 @@ module _ (w : World) (request : Request) (lengths : List ℕ) (h : Sound (w .doc
 
 -- ---- the call
 
-pub started-kept : (w : World) (request : Request) (lengths : List ℕ) → Sound (w .dock) → Kept w → typed request ≡ true → Kept (started w request lengths)
+pub started-kept : (w : World) (request : Request) (lengths : List ℕ) → Sound (w .dock) → Kept w → typed request ≡ true
+    → Kept (started w request lengths)
 unfolding started admits
 started-kept w request lengths h k fits =
     let e = w .dock .endpoint in

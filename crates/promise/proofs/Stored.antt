@@ -51,7 +51,8 @@ module _ (K : ℕ) (some-place : 0 < K) (finished : List ℕ) (stored heard plac
   pub places-cleared : Places K (clearPlace finished place) (suc stored) heard
   places-cleared i event l said =
       ⊎-elim
-      (λ (q : i ≡ place). absurd (never-event event (sym (cleared finished place room) ∙ subst (λ (x : ℕ). finishedAt (clearPlace finished place) x ≡ Event event) q said)))
+      (λ (q : i ≡ place). absurd
+      (never-event event (sym (cleared finished place room) ∙ subst (λ (x : ℕ). finishedAt (clearPlace finished place) x ≡ Event event) q said)))
       (λ (d : i ≡ place → ⊥).
       let o = old i event l (sym (others-kept finished place room (record { w0 = 0; w1 = 0; w2 = 0; w3 = 0 }) i d) ∙ said) in
       let again : (pos K (o .latest + K)) .place ≡ i = ap (λ (p : model.Position). p .place) (period K some-place (o .latest)) ∙ o .there in
@@ -72,9 +73,6 @@ module _ (w : World) (h : Sound (w .dock)) (k : Kept w) where
 
   abbrev v : Record
   v = recordAt (w .dock .records) (e .work .number)
-
-  abbrev K : ℕ
-  K = k .K
 
   abbrev packets : List ℕ
   packets = w .dock .packets
@@ -105,7 +103,9 @@ module _ (w : World) (h : Sound (w .dock)) (k : Kept w) where
     before = k .before;
     work = work;
     inv = rw account (subst (λ (x : model.State (flat (k .K))). Inv x) same (store-keeps some-place m (k .inv)));
-    numbered = rw account (subst (λ (x : model.State (flat (k .K))). Numbered x (bared (w .trbs))) same (store-numbered some-place m (k .inv) (bared (w .trbs)) (k .numbered)));
+    numbered =
+        rw account (subst (λ (x : model.State (flat (k .K))). Numbered x (bared (w .trbs))) same
+        (store-numbered some-place m (k .inv) (bared (w .trbs)) (k .numbered)));
     under = under;
     begun = begun;
     stored = stored;
@@ -123,7 +123,8 @@ module _ (w : World) (h : Sound (w .dock)) (k : Kept w) where
       record { last = rw (s .number) (b .last); first-at = rw (s .number, s .place) (b .first-at) }
 
   -- The model's store, by what is left and by whether the producer is at the link.
-  store-by : (work : model.Work (flat (k .K))) (b : Bool) → k .work ≡ work → eqb (e .at .place) (k .K) ≡ b → model.store m ≡ model.storeBy m (positionOf (e .at)) work b
+  store-by : (work : model.Work (flat (k .K))) (b : Bool) → k .work ≡ work → eqb (e .at .place) (k .K) ≡ b
+      → model.store m ≡ model.storeBy m (positionOf (e .at)) work b
   unfolding model.store
   store-by work b p q = rw (p, q)
 
@@ -165,7 +166,8 @@ module _ (w : World) (h : Sound (w .dock)) (k : Kept w) where
   -- The state of the dock after a store of each kind.
   abbrev after : Next → State
   after n =
-      stateOf (settled (stepped n e v packets) v) (ringStored n e v packets (w .dock .ring)) (finishedStored n e (w .dock .finished)) (w .dock .records) packets
+      stateOf (settled (stepped n e v packets) v) (ringStored n e v packets (w .dock .ring))
+      (finishedStored n e (w .dock .finished)) (w .dock .records) packets
 
   keeps-on : (n : Next) → isNone (nextOf (stepped n e v packets) v) ≡ false → settled (stepped n e v packets) v ≡ stepped n e v packets
   unfolding settled
@@ -178,7 +180,8 @@ module _ (w : World) (h : Sound (w .dock)) (k : Kept w) where
 
   -- ---- the link's slot
 
-  link-as-was : (place : ℕ) (t : Trb) (c : Bool) → 4 * place + 4 ≤ length (w .dock .ring) → (place ≡ k .K → ⊥) → LinkSlot (k .K) (e .shape .base) (storeAt (w .dock .ring) place t c)
+  link-as-was : (place : ℕ) (t : Trb) (c : Bool) → 4 * place + 4 ≤ length (w .dock .ring) → (place ≡ k .K → ⊥)
+      → LinkSlot (k .K) (e .shape .base) (storeAt (w .dock .ring) place t c)
   link-as-was place t c room off = rw (store-other (w .dock .ring) place t c room (k .K) (λ q. off (sym q))) (k .link-slot)
 
   off-link : (e .at .place ≡ k .K → ⊥) → LinkSlot (k .K) (e .shape .base) (ringStored theTrb e v packets (w .dock .ring))
@@ -193,7 +196,8 @@ module _ (w : World) (h : Sound (w .dock)) (k : Kept w) where
   unfolding ringStored
   own-link at-link t = (
     e .at .cycle,
-    subst (λ (i : ℕ). wordsAt (storeAt (w .dock .ring) (e .at .place) (linkTrb (e .shape .base) false) (e .at .cycle)) i ≡ wordsOf (linkTrb (e .shape .base) false) (e .at .cycle)) at-link
+    subst (λ (i : ℕ). wordsAt (storeAt (w .dock .ring) (e .at .place) (linkTrb (e .shape .base) false) (e .at .cycle)) i ≡ wordsOf
+        (linkTrb (e .shape .base) false) (e .at .cycle)) at-link
         (store-same (w .dock .ring) (e .at .place) (linkTrb (e .shape .base) false) (e .at .cycle) ring-room),
   )
 
@@ -203,13 +207,16 @@ module _ (w : World) (h : Sound (w .dock)) (k : Kept w) where
   link = linkWords e
 
   link-same : (rest : List Words) (again : Option (model.Entry (flat (k .K)))) → k .work ≡ model.busy rest link again → e .at .place ≡ k .K
-      → model.store m ≡ then (ringStored theLink e v packets (w .dock .ring)) (around (e .at)) (model.leaves (model.around (positionOf (e .at))) rest link again)
+      → model.store m ≡ then (ringStored theLink e v packets (w .dock .ring)) (around (e .at))
+      (model.leaves (model.around (positionOf (e .at))) rest link again)
   unfolding ringStored
   link-same rest again is at-link =
       store-by (model.busy rest link again) true is (eq-eqb _ _ at-link)
-      ∙ put-is (k .K) (setCycle (e .at .cycle) link) (model.around (positionOf (e .at))) (model.leaves (model.around (positionOf (e .at))) rest link again)
+      ∙ put-is (k .K) (setCycle (e .at .cycle) link) (model.around (positionOf (e .at)))
+      (model.leaves (model.around (positionOf (e .at))) rest link again)
       (storeAt (w .dock .ring) (e .at .place) (linkTrb (e .shape .base) false) (e .at .cycle)) (around (e .at))
-      (ap (λ (i : ℕ). setSlot (w .dock .ring) i (setCycle (e .at .cycle) link)) (sym at-link) ∙ store-is (w .dock .ring) (e .at .place) (linkTrb (e .shape .base) false) (e .at .cycle) ring-room)
+      (ap (λ (i : ℕ). setSlot (w .dock .ring) i (setCycle (e .at .cycle) link)) (sym at-link) ∙ store-is
+      (w .dock .ring) (e .at .place) (linkTrb (e .shape .base) false) (e .at .cycle) ring-room)
       refl
 
   on-one : model.advance (positionOf (e .at)) ≡ positionOf (onward (e .at))
@@ -217,11 +224,13 @@ module _ (w : World) (h : Sound (w .dock)) (k : Kept w) where
 
   trb-same : (rest : List Words) (again : Option (model.Entry (flat (k .K)))) → k .work ≡ model.busy (bare (trbOf e v packets now) ∷ rest) link again
       → (e .at .place ≡ k .K → ⊥) → firstCycle e v ≡ e .at .cycle
-      → model.store m ≡ then (ringStored theTrb e v packets (w .dock .ring)) (onward (e .at)) (model.leaves (model.advance (positionOf (e .at))) rest link again)
+      → model.store m ≡ then (ringStored theTrb e v packets (w .dock .ring)) (onward (e .at))
+      (model.leaves (model.advance (positionOf (e .at))) rest link again)
   unfolding ringStored
   trb-same rest again is off current =
       store-by (model.busy (bare (trbOf e v packets now) ∷ rest) link again) false is (ne-eqb _ _ off)
-      ∙ put-is (e .at .place) (setCycle (e .at .cycle) (bare (trbOf e v packets now))) (model.advance (positionOf (e .at))) (model.leaves (model.advance (positionOf (e .at))) rest link again)
+      ∙ put-is (e .at .place) (setCycle (e .at .cycle) (bare (trbOf e v packets now))) (model.advance (positionOf (e .at)))
+      (model.leaves (model.advance (positionOf (e .at))) rest link again)
       (storeAt (w .dock .ring) (e .at .place) (trbOf e v packets now) (firstCycle e v)) (onward (e .at))
       (store-is (w .dock .ring) (e .at .place) (trbOf e v packets now) (e .at .cycle) ring-room
       ∙ ap (storeAt (w .dock .ring) (e .at .place) (trbOf e v packets now)) (sym current))
@@ -239,7 +248,8 @@ module _ (w : World) (h : Sound (w .dock)) (k : Kept w) where
 
   behind-count : length behind ≡ count - (now + 1)
   behind-count =
-      bared-length (upcoming (count - (now + 1)) (stepped theTrb e v packets) v packets) ∙ upcoming-length (count - (now + 1)) (stepped theTrb e v packets) v packets
+      bared-length (upcoming (count - (now + 1)) (stepped theTrb e v packets) v packets) ∙ upcoming-length
+      (count - (now + 1)) (stepped theTrb e v packets) v packets
 
   none-left : now ≡ count → left (k .K) e (w .dock .records) packets ≡ []
   unfolding upcoming
@@ -248,14 +258,18 @@ module _ (w : World) (h : Sound (w .dock)) (k : Kept w) where
   -- The link's store changes nothing of what is to be stored.
   link-left : left (k .K) (stepped theLink e v packets) (w .dock .records) packets ≡ left (k .K) e (w .dock .records) packets
   unfolding stepped
-  link-left = ap bared (same-upcoming v packets (count - now) (stepped theLink e v packets) e (record { stored = refl; address = refl; number = refl; packet = refl; burst = refl }))
+  link-left =
+      ap bared (same-upcoming v packets (count - now) (stepped theLink e v packets) e
+      (record { stored = refl; address = refl; number = refl; packet = refl; burst = refl }))
 
   -- What is left, where something is, or the setup is to be stored again, is what was left.
-  leaves-some : (p : model.Position) (l : List Words) (again : Option (model.Entry (flat (k .K)))) → 0 < length l → model.leaves {S = flat (k .K)} p l link again ≡ model.busy l link again
+  leaves-some : (p : model.Position) (l : List Words) (again : Option (model.Entry (flat (k .K)))) → 0 < length l → model.leaves {S =
+      flat (k .K)} p l link again ≡ model.busy l link again
   leaves-some p [] again more = absurd (omega arith)
   leaves-some p (x ∷ xs) again more = refl
 
-  leaves-again : (p : model.Position) (l : List Words) (a : model.Entry (flat (k .K))) → model.leaves {S = flat (k .K)} p l link (some a) ≡ model.busy l link (some a)
+  leaves-again : (p : model.Position) (l : List Words) (a : model.Entry (flat (k .K))) → model.leaves {S =
+      flat (k .K)} p l link (some a) ≡ model.busy l link (some a)
   leaves-again p [] a = refl
   leaves-again p (x ∷ xs) a = refl
 
@@ -272,7 +286,8 @@ module _ (w : World) (h : Sound (w .dock)) (k : Kept w) where
 
   cleared-places : (e .at .place ≡ k .K → ⊥) → Places (k .K) (finishedStored theTrb e (w .dock .finished)) (suc (k .stored)) (w .heard)
   unfolding finishedStored
-  cleared-places off = places-cleared (k .K) some-place (w .dock .finished) (k .stored) (w .heard) (e .at .place) (next-at w k off) place-room (k .places)
+  cleared-places off =
+      places-cleared (k .K) some-place (w .dock .finished) (k .stored) (w .heard) (e .at .place) (next-at w k off) place-room (k .places)
 
   -- ---- a request that is not a control request
 
@@ -288,7 +303,8 @@ module _ (w : World) (h : Sound (w .dock)) (k : Kept w) where
         let rest = left (k .K) e (w .dock .records) packets in
         rw on
         (next-kept (stepped theLink e v packets) _ (w .dock .finished) (model.busy rest link none) (k .stored) refl refl (own-link at-link)
-        (link-same rest none (u .is) at-link ∙ ap (then _ (around (e .at))) (leaves-some (model.around (positionOf (e .at))) rest none (omega (arith, left-count (k .K) e (w .dock .records) packets))))
+        (link-same rest none (u .is) at-link ∙ ap (then _ (around (e .at)))
+        (leaves-some (model.around (positionOf (e .at))) rest none (omega (arith, left-count (k .K) e (w .dock .records) packets))))
         (shows (record { taken = refl; kind = u .kind; counted = u .counted; is = ap (λ (l : List Words). model.busy l link none) (sym link-left) }))
         (λ b. keep-begun theLink (u .taken))
         (stored-is (model.busy rest link none) (u .is)) (k .places))
@@ -297,13 +313,16 @@ module _ (w : World) (h : Sound (w .dock)) (k : Kept w) where
     shows-link-last : e .at .place ≡ k .K → now ≡ count → Kept (withDock w (after theLink))
     unfolding stepped finishedStored
     shows-link-last at-link all =
-        let over = is-over theLink (ends-here (stepped theLink e v packets) v (λ (q : 0 + 1 ≡ e .shape .slots). omega (arith, k .shape, k .some-slot)) (omega arith) (λ q. other q)) in
+        let over =
+        is-over theLink (ends-here (stepped theLink e v packets) v (λ (q : 0 + 1 ≡ e .shape .slots). omega (arith, k .shape, k .some-slot))
+        (omega arith) (λ q. other q)) in
         let rest = left (k .K) e (w .dock .records) packets in
         let none-more = none-left all in
         let is : k .work ≡ model.busy [] link none = u .is ∙ ap (λ (l : List Words). model.busy l link none) none-more in
         rw over
         (next-kept _ _ (w .dock .finished) model.idle (k .stored) refl refl (own-link at-link)
-        (link-same [] none is at-link ∙ ap (then _ (around (e .at))) (leaves-none (model.around (positionOf (e .at))) (λ (q : 0 ≡ k .K). omega (arith, k .some-slot))))
+        (link-same [] none is at-link ∙ ap (then _ (around (e .at)))
+        (leaves-none (model.around (positionOf (e .at))) (λ (q : 0 ≡ k .K). omega (arith, k .some-slot))))
         (rests (record { free = refl; is = refl }))
         (λ b. absurd (false≢true b))
         (stored-is (model.busy [] link none) is) (k .places))
@@ -322,7 +341,8 @@ module _ (w : World) (h : Sound (w .dock)) (k : Kept w) where
         let is = next-work (omega arith) in
         rw on
         (next-kept (stepped theTrb e v packets) _ _ (model.busy behind link none) (suc (k .stored)) refl refl (off-link off)
-        (trb-same behind none is off current ∙ ap (then _ (onward (e .at))) (leaves-some (model.advance (positionOf (e .at))) behind none (omega (arith, behind-count))))
+        (trb-same behind none is off current ∙ ap (then _ (onward (e .at)))
+        (leaves-some (model.advance (positionOf (e .at))) behind none (omega (arith, behind-count))))
         (shows (record { taken = refl; kind = u .kind; counted = omega arith; is = refl }))
         (λ b. keep-begun theTrb (u .taken))
         (omega (arith, stored-is _ is)) (cleared-places off))
@@ -353,7 +373,8 @@ module _ (w : World) (h : Sound (w .dock)) (k : Kept w) where
     shows-trb-last : (e .at .place ≡ k .K → ⊥) → now + 1 ≡ count → (suc (e .at .place) ≡ k .K → ⊥) → Kept (withDock w (after theTrb))
     unfolding stepped
     shows-trb-last off all not-due =
-        let over = is-over theTrb (ends-here (stepped theTrb e v packets) v (λ q. not-due (omega (arith, k .shape))) (omega arith) (λ q. u .kind (q .0))) in
+        let over =
+        is-over theTrb (ends-here (stepped theTrb e v packets) v (λ q. not-due (omega (arith, k .shape))) (omega arith) (λ q. u .kind (q .0))) in
         let is = next-work (omega arith) in
         let none-more = no-more all in
         rw over
@@ -401,7 +422,8 @@ module _ (w : World) (h : Sound (w .dock)) (k : Kept w) where
     hides-trb off more =
         let on = keeps-on theTrb (goes-on (stepped theTrb e v packets) v
         (inr (⊎-elim (λ (l : now + 1 < count). inl l) (λ (l : count ≤ now + 1). inr (u .kind, omega arith)) (lt-or-le (now + 1) count)))) in
-        let is : k .work ≡ model.busy (bare (trbOf e v packets now) ∷ behind) link (some again) = u .is ∙ ap (λ (l : List Words). model.busy l link (some again)) (next-left more) in
+        let is : k .work ≡ model.busy (bare (trbOf e v packets now) ∷ behind) link (some again) =
+        u .is ∙ ap (λ (l : List Words). model.busy l link (some again)) (next-left more) in
         rw on
         (next-kept (stepped theTrb e v packets) _ _ (model.busy behind link (some again)) (suc (k .stored)) refl refl (off-link off)
         (trb-same behind (some again) is off (trb-current e v (λ q. omega (arith, q .1, u .some-stored)))
@@ -414,7 +436,8 @@ module _ (w : World) (h : Sound (w .dock)) (k : Kept w) where
     hides-setup : e .work .place + 1 < e .shape .slots → (e .at .place ≡ k .K → ⊥) → now ≡ count → Kept (withDock w (after theSetup))
     unfolding stepped finishedStored ringStored
     hides-setup low off all =
-        let over = is-over theSetup (ends-here (stepped theSetup e v packets) v (λ q. off (omega (arith, k .shape))) (omega arith) (λ q. omega (arith, q .1))) in
+        let over =
+        is-over theSetup (ends-here (stepped theSetup e v packets) v (λ q. off (omega (arith, k .shape))) (omega arith) (λ q. omega (arith, q .1))) in
         let is : k .work ≡ model.busy [] link (some again) = u .is ∙ ap (λ (l : List Words). model.busy l link (some again)) (none-left all) in
         rw over
         (next-kept _ _ (w .dock .finished) model.idle (k .stored) refl refl (off-setup low)
@@ -456,7 +479,8 @@ module _ (w : World) (h : Sound (w .dock)) (k : Kept w) where
     opens-same =
         let p = positionOf (e .at) in
         store-by (model.opening (u .setup) (u .others) link) (eqb (e .at .place) (k .K)) (u .is) refl
-        ∙ put-is (e .at .place) (setCycle (not (e .at .cycle)) (u .setup)) (model.advance p) (model.busy (u .others) link (some (model.placed (flat (k .K)) p (u .setup))))
+        ∙ put-is (e .at .place) (setCycle (not (e .at .cycle)) (u .setup)) (model.advance p)
+        (model.busy (u .others) link (some (model.placed (flat (k .K)) p (u .setup))))
         (storeAt (w .dock .ring) (e .at .place) (trbOf e v packets now) (firstCycle e v)) (onward (e .at))
         (ap (λ (x : Words). setSlot (w .dock .ring) (e .at .place) (setCycle (not (e .at .cycle)) x)) setup-is
         ∙ store-is (w .dock .ring) (e .at .place) (trbOf e v packets now) (not (e .at .cycle)) ring-room
@@ -470,10 +494,20 @@ module _ (w : World) (h : Sound (w .dock)) (k : Kept w) where
     unfolding stepped
     opens-trb =
         let on = keeps-on theTrb (goes-on (stepped theTrb e v packets) v
-        (inr (⊎-elim (λ (l : now + 1 < count). inl l) (λ (l : count ≤ now + 1). inr (u .kind, omega (arith, some-left))) (lt-or-le (now + 1) count)))) in
+        (inr (⊎-elim (λ (l : now + 1 < count). inl l) (λ (l : count ≤ now + 1). inr (u .kind, omega (arith, some-left)))
+        (lt-or-le (now + 1) count)))) in
         rw on
-        (next-kept (stepped theTrb e v packets) _ _ (model.busy behind link (some setup-again)) (suc (k .stored)) refl refl (off-link opens-off) opens-same
-        (hides (record { taken = refl; kind = u .kind; some-stored = omega arith; counted = omega (arith, some-left); marked = u .marked; is = refl }))
+        (next-kept (stepped theTrb e v packets) _ _ (model.busy behind link (some setup-again))
+        (suc (k .stored)) refl refl (off-link opens-off) opens-same
+        (hides (record {
+          taken = refl;
+          kind = u .kind;
+          some-stored = omega arith;
+          counted = omega
+              (arith, some-left);
+          marked = u .marked;
+          is = refl;
+        }))
         (λ b. keep-begun theTrb (u .taken))
         (omega (arith, stored-is _ (u .is), ap length others-are)) (cleared-places opens-off))
 
@@ -493,7 +527,8 @@ module _ (w : World) (h : Sound (w .dock)) (k : Kept w) where
   by-next : (n : Next) → nextOf e v ≡ n → Kept (withDock w (after n)) → Kept (withDock w (after (nextOf e v)))
   by-next n q x = subst (λ (y : Next). Kept (withDock w (after y))) (sym q) x
 
-  stored-shown : (u : Shows (k .K) e (w .dock .records) packets (w .first (e .work .number)) (k .before) (k .work)) → Kept (withDock w (after (nextOf e v)))
+  stored-shown : (u : Shows (k .K) e (w .dock .records) packets (w .first (e .work .number)) (k .before) (k .work))
+      → Kept (withDock w (after (nextOf e v)))
   stored-shown u =
       ⊎-elim
       (λ (at-link : e .at .place ≡ k .K).
@@ -515,7 +550,8 @@ module _ (w : World) (h : Sound (w .dock)) (k : Kept w) where
       (lt-or-le (now + 1) count)))
       (same-or-not (e .at .place) (k .K))
 
-  stored-hidden : (u : Hides (k .K) e (w .dock .records) packets (w .first (e .work .number)) (k .before) (k .work)) → e .work .place + 1 < e .shape .slots
+  stored-hidden : (u : Hides (k .K) e (w .dock .records) packets (w .first (e .work .number)) (k .before) (k .work))
+      → e .work .place + 1 < e .shape .slots
       → Kept (withDock w (after (nextOf e v)))
   stored-hidden u low =
       ⊎-elim
@@ -534,11 +570,13 @@ module _ (w : World) (h : Sound (w .dock)) (k : Kept w) where
 
   -- ---- the call
 
-  store-acted : storeNo e (length (w .dock .ring)) (length (w .dock .finished)) (w .dock .records) (length packets) ≡ 0 → Kept (withDock w (after (nextOf e v)))
+  store-acted : storeNo e (length (w .dock .ring)) (length (w .dock .finished)) (w .dock .records) (length packets) ≡ 0
+      → Kept (withDock w (after (nextOf e v)))
   store-acted passed =
       let s = store-admitted e (w .dock .ring) (w .dock .finished) (w .dock .records) packets passed in
       let low : e .work .place + 1 < e .shape .slots =
-      ⊎-elim (λ (q : e .work .busy ≡ false). absurd (false≢true (sym q ∙ s .busy))) (λ (q : e .work .place + 1 < e .shape .slots). q) (s .fits .first) in
+      ⊎-elim (λ (q : e .work .busy ≡ false). absurd (false≢true (sym q ∙ s .busy)))
+      (λ (q : e .work .place + 1 < e .shape .slots). q) (s .fits .first) in
       by (s .busy) low (k .under)
     where
       by : e .work .busy ≡ true → e .work .place + 1 < e .shape .slots

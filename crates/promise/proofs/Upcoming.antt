@@ -24,7 +24,8 @@ unfolding upcoming
 upcoming-length zero e v packets = refl
 upcoming-length (suc n) e v packets = ap suc (upcoming-length n (stepped theTrb e v packets) v packets)
 
-pub left-count : (K : ℕ) (e : Endpoint) (records packets : List ℕ) → length (left K e records packets) ≡ trbCount (recordAt records (e .work .number)) - e .work .stored
+pub left-count : (K : ℕ) (e : Endpoint) (records packets : List ℕ)
+    → length (left K e records packets) ≡ trbCount (recordAt records (e .work .number)) - e .work .stored
 left-count K e records packets =
     let v = recordAt records (e .work .number) in
     bared-length (upcoming (trbCount v - e .work .stored) e v packets) ∙ upcoming-length (trbCount v - e .work .stored) e v packets
@@ -56,12 +57,14 @@ module _ (v : Record) (packets : List ℕ) where
   unfolding upcoming
   same-upcoming zero a b s = refl
   same-upcoming (suc n) a b s =
-      ap₂ (λ (t : Trb) (ts : List Trb). t ∷ ts) (same-trb a b s) (same-upcoming n (stepped theTrb a v packets) (stepped theTrb b v packets) (alike-next a b s))
+      ap₂ (λ (t : Trb) (ts : List Trb). t ∷ ts) (same-trb a b s)
+      (same-upcoming n (stepped theTrb a v packets) (stepped theTrb b v packets) (alike-next a b s))
 
 -- ---- whether a store follows
 
 -- At L-1 the link does; else a TRB, where one is left; else, for control, the setup.
-pub goes-on : (e : Endpoint) (v : Record) → (e .at .place + 1 ≡ e .shape .slots) ⊎ ((e .work .stored < trbCount v) ⊎ ((v .kind ≡ control) × (e .work .stored ≡ trbCount v)))
+pub goes-on : (e : Endpoint) (v : Record)
+    → (e .at .place + 1 ≡ e .shape .slots) ⊎ ((e .work .stored < trbCount v) ⊎ ((v .kind ≡ control) × (e .work .stored ≡ trbCount v)))
     → isNone (nextOf e v) ≡ false
 goes-on e v more =
     ⊎-elim
@@ -78,6 +81,7 @@ goes-on e v more =
     (same-or-not (e .at .place + 1) (e .shape .slots))
 
 -- Else none does.
-pub ends-here : (e : Endpoint) (v : Record) → (e .at .place + 1 ≡ e .shape .slots → ⊥) → trbCount v ≤ e .work .stored → ((v .kind ≡ control) × (e .work .stored ≡ trbCount v) → ⊥)
+pub ends-here : (e : Endpoint) (v : Record) → (e .at .place + 1 ≡ e .shape .slots → ⊥) → trbCount v ≤ e .work .stored
+    → ((v .kind ≡ control) × (e .work .stored ≡ trbCount v) → ⊥)
     → isNone (nextOf e v) ≡ true
 ends-here e v off all other = ap isNone (is-next e v fit.none (off, all, other))

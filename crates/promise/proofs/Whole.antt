@@ -86,7 +86,8 @@ module _ (n : ℕ) (s : State) where
 
   -- What follows a store, by its answer.
   finish-by : (x : Stored) → one .0 .answer ≡ x → afterFinish (suc n) s
-      ≡ (let a = submitting.afterStore x (one .0 .endpoint) (one .1) (one .2) (λ e ring finished. finish n e ring finished (s .records) (s .packets)) in
+      ≡ (let a =
+      submitting.afterStore x (one .0 .endpoint) (one .1) (one .2) (λ e ring finished. finish n e ring finished (s .records) (s .packets)) in
       stateOf (a .0 .endpoint) (a .1) (a .2) (s .records) (s .packets))
   unfolding afterFinish finish
   finish-by x q =
@@ -98,17 +99,22 @@ module _ (n : ℕ) (s : State) where
   -- The submission goes on,
   finish-on : numberOf s ≡ 0 → lastStore (s .endpoint) (s .records) (s .packets) ≡ false → afterFinish (suc n) s ≡ afterFinish n (afterStore s)
   unfolding afterFinish
-  finish-on p more = finish-by _ (ap (λ (a : StoredOne). a .answer) (store-goes-on (s .endpoint) (s .ring) (s .finished) (s .records) (s .packets) p more))
+  finish-on p more =
+      finish-by _ (ap (λ (a : StoredOne). a .answer) (store-goes-on (s .endpoint) (s .ring) (s .finished) (s .records) (s .packets) p more))
 
   -- or it ends.
   finish-last : numberOf s ≡ 0 → lastStore (s .endpoint) (s .records) (s .packets) ≡ true → afterFinish (suc n) s ≡ afterStore s
-  finish-last p last = finish-by _ (ap (λ (a : StoredOne). a .answer) (store-ends (s .endpoint) (s .ring) (s .finished) (s .records) (s .packets) p last))
+  finish-last p last =
+      finish-by _ (ap (λ (a : StoredOne). a .answer) (store-ends (s .endpoint) (s .ring) (s .finished) (s .records) (s .packets) p last))
 
   finish-refused : (numberOf s ≡ 0 → ⊥) → afterFinish (suc n) s ≡ afterStore s
-  finish-refused p = finish-by _ (ap (λ (a : StoredOne × List ℕ × List ℕ). a .0 .answer) (store-refuses (s .endpoint) (s .ring) (s .finished) (s .records) (s .packets) p))
+  finish-refused p =
+      finish-by _ (ap (λ (a : StoredOne × List ℕ × List ℕ). a .0 .answer)
+      (store-refuses (s .endpoint) (s .ring) (s .finished) (s .records) (s .packets) p))
 
   over-rests : numberOf s ≡ 0 → lastStore (s .endpoint) (s .records) (s .packets) ≡ true → afterStore s .endpoint .work .busy ≡ false
-  over-rests p last = ap (λ (a : StoredOne). a .endpoint .work .busy) (store-ends (s .endpoint) (s .ring) (s .finished) (s .records) (s .packets) p last)
+  over-rests p last =
+      ap (λ (a : StoredOne). a .endpoint .work .busy) (store-ends (s .endpoint) (s .ring) (s .finished) (s .records) (s .packets) p last)
 
 stores-finish : (n : ℕ) (s : State) → storesOf n s ≡ afterFinish n s
 unfolding storesOf afterFinish finish
@@ -151,7 +157,10 @@ module _ (w : World) (h : Sound (w .dock)) (request : Request) (lengths : List �
   s = w .dock
 
   fit : (eqb (length (s .ring)) (ringSize (s .endpoint .shape .slots)) && eqb (length (s .finished)) (ringSize (s .endpoint .shape .slots))) ≡ true
-  fit = if-so (both (by-eqb (length (s .ring)) (ringSize (s .endpoint .shape .slots))) (by-eqb (length (s .finished)) (ringSize (s .endpoint .shape .slots)))) (h .ringLong, h .finishedLong)
+  fit =
+      if-so (both (by-eqb (length (s .ring)) (ringSize (s .endpoint .shape .slots)))
+      (by-eqb (length (s .finished)) (ringSize (s .endpoint .shape .slots))))
+      (h .ringLong, h .finishedLong)
 
   stored-dock : submitted w request lengths pauses .dock ≡ afterFinish (mostStores request lengths) (afterStart s request lengths)
   unfolding submitted
@@ -167,7 +176,9 @@ module _ (w : World) (h : Sound (w .dock)) (request : Request) (lengths : List �
   unfolding afterFinish
   admitted-is p =
       stored-dock
-      ∙ ap (λ (a : Changed × List ℕ × List ℕ). afterFinish (mostStores request lengths) (stateOf (a .0 .endpoint) (s .ring) (s .finished) (a .1) (a .2))) (start-acts (s .endpoint) (s .records) (s .packets) request lengths p)
+      ∙ ap (λ (a : Changed × List ℕ × List ℕ). afterFinish (mostStores request lengths)
+      (stateOf (a .0 .endpoint) (s .ring) (s .finished) (a .1) (a .2)))
+      (start-acts (s .endpoint) (s .records) (s .packets) request lengths p)
       ∙ ap (λ (a : StoredAll × List ℕ × List ℕ × List ℕ × List ℕ). stateOf (a .0 .endpoint) (a .1) (a .2) (a .3) (a .4))
       (sym (submit-acts (s .endpoint) (s .ring) (s .finished) (s .records) (s .packets) request lengths fit p))
 
@@ -175,7 +186,9 @@ module _ (w : World) (h : Sound (w .dock)) (request : Request) (lengths : List �
     refused-is : (passes → ⊥) → submitted w request lengths pauses .dock ≡ afterSubmit s request lengths
     unfolding submitted
     refused-is p =
-        let same : afterStart s request lengths ≡ s = ap (λ (a : Changed × List ℕ × List ℕ). stateOf (a .0 .endpoint) (s .ring) (s .finished) (a .1) (a .2)) (start-refuses (s .endpoint) (s .records) (s .packets) request lengths p) in
+        let same : afterStart s request lengths ≡ s =
+        ap (λ (a : Changed × List ℕ × List ℕ). stateOf (a .0 .endpoint) (s .ring) (s .finished) (a .1) (a .2))
+        (start-refuses (s .endpoint) (s .records) (s .packets) request lengths p) in
         storing-dock (mostStores request lengths) pauses (started w request lengths)
         ∙ ap (storesOf (mostStores request lengths)) (started-dock w request lengths ∙ same)
         ∙ stays (mostStores request lengths) s (rest-stays s free)
@@ -184,14 +197,17 @@ module _ (w : World) (h : Sound (w .dock)) (request : Request) (lengths : List �
         (submit-refuses (s .endpoint) (s .ring) (s .finished) (s .records) (s .packets) request lengths fit p))
 
     pub submitted-is : submitted w request lengths pauses .dock ≡ afterSubmit s request lengths
-    submitted-is = ⊎-elim (λ (p : passes). admitted-is p) (λ (p : passes → ⊥). refused-is p) (same-or-not (startNo (s .endpoint) (s .records) (length (s .packets)) request lengths) 0)
+    submitted-is =
+        ⊎-elim (λ (p : passes). admitted-is p) (λ (p : passes → ⊥). refused-is p)
+        (same-or-not (startNo (s .endpoint) (s .records) (length (s .packets)) request lengths) 0)
 
     -- Nothing is under way after it.
     pub submitted-rests : submitted w request lengths pauses .dock .endpoint .work .busy ≡ false
     submitted-rests =
         ap (λ (x : State). x .endpoint .work .busy) submitted-is
         ∙ ⊎-elim
-        (λ (p : passes). ap (λ (x : Work). x .busy) (submit-done (s .endpoint) (s .ring) (s .finished) (s .records) (s .packets) request lengths p (h .ringLong) (h .finishedLong) .1))
+        (λ (p : passes). ap (λ (x : Work). x .busy)
+        (submit-done (s .endpoint) (s .ring) (s .finished) (s .records) (s .packets) request lengths p (h .ringLong) (h .finishedLong) .1))
         (λ (p : passes → ⊥).
         ap (λ (a : StoredAll × List ℕ × List ℕ × List ℕ × List ℕ). a .0 .endpoint .work .busy)
         (submit-refuses (s .endpoint) (s .ring) (s .finished) (s .records) (s .packets) request lengths fit p)
@@ -210,7 +226,8 @@ unfolding storing
 storing-run zero pauses w r = r
 storing-run (suc n) pauses w r = storing-run n pauses (act (stepping (pauses n) w) stores) (run.andThen (stepping-run (pauses n) w r) stores refl)
 
-submitted-run : (w : World) (request : Request) (lengths : List ℕ) (pauses : ℕ → ℕ) → typed request ≡ true → Run w → Run (submitted w request lengths pauses)
+submitted-run : (w : World) (request : Request) (lengths : List ℕ) (pauses : ℕ → ℕ) → typed request ≡ true
+    → Run w → Run (submitted w request lengths pauses)
 unfolding submitted
 submitted-run w request lengths pauses fits r =
     storing-run (mostStores request lengths) pauses (started w request lengths) (run.andThen r (starts request lengths) fits)
@@ -223,7 +240,8 @@ whole-run (andSubmits {w} r request lengths pauses fits) = submitted-run w reque
 -- A call between submissions begins none.
 configure-rests : (s : State) (packet burst interval : ℕ) → configure (s .endpoint) packet burst interval .endpoint .work ≡ s .endpoint .work
 unfolding configure
-configure-rests s packet burst interval = picked (λ (c : Changed). c .endpoint .work ≡ s .endpoint .work) (eqb (plainNo (s .endpoint)) 0) _ _ (λ t. refl) (λ t. refl)
+configure-rests s packet burst interval =
+    picked (λ (c : Changed). c .endpoint .work ≡ s .endpoint .work) (eqb (plainNo (s .endpoint)) 0) _ _ (λ t. refl) (λ t. refl)
 
 reclaim-rests : (s : State) (id : ℕ) → afterReclaim s id .endpoint .work ≡ s .endpoint .work
 unfolding leave
@@ -234,7 +252,8 @@ reclaim-rests s id =
     (λ (u : Looked s id t).
     ⊎-elim
     (λ (n : t .0 ≡ nothing (s .endpoint)). ap (λ (x : ReclaimedOne). x .endpoint .work) n)
-    (λ (n : Left (s .endpoint) (u .number) (flightPart (s .records) (s .endpoint .account .occupancy) (u .number)) (t .0)). ap (λ (x : Endpoint). x .work) (n .gone))
+    (λ (n : Left (s .endpoint) (u .number) (flightPart (s .records) (s .endpoint .account .occupancy) (u .number)) (t .0)). ap
+    (λ (x : Endpoint). x .work) (n .gone))
     (u .touches .end))
     (reclaim-result s id)
 
@@ -248,7 +267,8 @@ between-rests w (reclaims id) other free = ap (λ (x : Work). x .busy) (reclaim-
 between-rests w (cancels id) other free = free
 between-rests w steps other free = free
 
-made-rests : (ring finished records packets : List ℕ) (slots base mask slot dci : ℕ) → madeOf ring finished records packets slots base mask slot dci .endpoint .work .busy ≡ false
+made-rests : (ring finished records packets : List ℕ) (slots base mask slot dci : ℕ)
+    → madeOf ring finished records packets slots base mask slot dci .endpoint .work .busy ≡ false
 unfolding make
 made-rests ring finished records packets slots base mask slot dci =
     picked (λ (t : Changed × List ℕ × List ℕ × List ℕ × List ℕ). t .0 .endpoint .work .busy ≡ false)
