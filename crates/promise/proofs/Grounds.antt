@@ -1,0 +1,337 @@
+-- What the theorem rests on, each of every state that a run reaches:
+--   `outstanding-sum`: outstanding is the sum of the counts of the requests in flight.
+--   `leaves-consumed`: a request leaves flight only when all its TRBs are consumed.
+--   `not-overwritten`: no store overwrites a TRB that is not consumed, but the setup's second store, which stores the same TRB again.
+--   `event-latest`: the event in a finished place is of the latest TRB stored there, and that one is consumed.
+-- Assumes nothing.
+use Prim.Native.Nat.{ℕ, _+_, _-_, _<_, _≤_}
+use mathlib.Core.Bool.{Bool, true, false, false≢true}
+use mathlib.Core.List.{List}
+use mathlib.Core.Logic.{_⊎_, inl, inr, ⊎-elim}
+use mathlib.Core.Path.{_≡_, refl, sym, ap, _∙_, subst}
+use native.Mathlib.Omega.{arith}
+use lib.Dec.{eqb}
+use lib.ListN.{length, take, length-append, length-take}
+use Rattle.base.specs.First.{pick}
+use Rattle.base.proofs.Compare.{same-or-not, lt-or-le, compared}
+use Rattle.base.proofs.Decide.{if-so}
+use Rattle.ids.specs.Lookup.{findIn}
+use Rattle.ids.proofs.AnyLaws.{true-or-false}
+use Rattle.mask.specs.Bit.{bit}
+use Rattle.mask.specs.Compute.{clearBit}
+use Rattle.trb.specs.declared.Words.{Words}
+use Rattle.table.specs.Finished.{finishedAt}
+use Rattle.table.specs.Records.{recordAt}
+use Rattle.table.specs.declared.finished.Finished.the-variants.{Event}
+use Rattle.table.specs.declared.records.Record.{Record}
+use Rattle.dock.specs.declared.Account.{Account}
+use Rattle.dock.specs.declared.Changed.{Changed}
+use Rattle.dock.specs.declared.Endpoint.{Endpoint}
+use Rattle.dock.specs.declared.Outcome.{Outcome}
+use Rattle.dock.specs.declared.ReclaimedOne.{ReclaimedOne}
+use Rattle.dock.specs.declared.Request.{Request}
+use Rattle.dock.specs.Cancel.{cancel, cancelNo}
+use Rattle.dock.specs.Configure.{configure, plainNo}
+use Rattle.dock.specs.Fit.{flies, Next, theLink, theTrb, theSetup, isNone}
+use Rattle.dock.specs.Fit as fit
+use Rattle.dock.specs.Reclaim.{codeOf, leave, nothing, reclaim}
+use Rattle.dock.specs.Start.{recordTaken, startNo, startedEndpoint, startedRecords}
+use Rattle.dock.specs.Store.{slotStored, storeNo}
+use Rattle.dock.specs.Stores.{trbCount}
+use Rattle.dock.specs.Worth.{accepted}
+use Rattle.dock.proofs.BooksLaws.{by-flies, flies-alike, freed-other}
+use Rattle.dock.proofs.FitLaws.{store-number}
+use Rattle.dock.proofs.InvariantLaws.{Untouched, Looked, reclaim-result, marked-alike}
+use Rattle.dock.proofs.NextLaws.{because, store-admitted}
+use Rattle.dock.proofs.OnceLaws.{outstanding-is-sum}
+use Rattle.dock.proofs.Reached.{Sound, flightPart, flightSum, afterReclaim, afterStart, afterStore, afterCancel}
+use Rattle.dock.proofs.ReclaimLaws.{Left}
+use Rattle.dock.proofs.RefusalLaws.{start-acts, start-refuses, store-refuses}
+use Rattle.dock.proofs.RetireLaws.{picked}
+use Rattle.dock.proofs.StartLaws.{record-free, record-taken, records-kept}
+use Rattle.dock.proofs.StepLaws.{store-keeps}
+use Rattle.dock.proofs.StoreLaws.{nextStore, slotChanged}
+use Rattle.order.specs.Flat.{flat}
+use Rattle.order.proofs.Index.{pos, slot-lt, distinct}
+use Rattle.order.proofs.Moves.{pending, waiting, length-layout}
+use Rattle.order.proofs.Order.{Front}
+use Rattle.promise.specs.Requested.{slotOf}
+use Rattle.promise.specs.Run.{World, slots, admitted, storedCount, recordUnderWay, firstUnderWay, admits, started, handed, stepped, Move, configures, starts, stores, hands, reclaims, cancels, steps, act, Run}
+use Rattle.promise.proofs.Awaited.{next-at}
+use Rattle.promise.proofs.Handed.{all-stored}
+use Rattle.promise.proofs.Kept.{modelIn, Under, rests, opens, shows, hides, Kept}
+use Rattle.promise.proofs.Laid.{bared, bared-length}
+use Rattle.promise.proofs.Order.{control-unseen}
+use Rattle.promise.proofs.Reach.{run-reached, run-sound, run-kept}
+use Rattle.promise.proofs.Reclaimed.{place-at, left-heard}
+use Rattle.promise.proofs.Upcoming.{left-count}
+
+-- ---- outstanding
+
+pub outstanding-sum : {w : World} → Run w
+    → w .dock .endpoint .account .outstanding ≡ flightSum (w .dock .records) (w .dock .endpoint .account .occupancy)
+outstanding-sum r = outstanding-is-sum (run-reached r)
+
+-- ---- how many TRBs are stored
+
+module _ (w : World) (k : Kept w) where
+  abbrev e : Endpoint
+  e = w .dock .endpoint
+
+  some-place : 0 < k .K
+  some-place = omega (arith, k .some-slot)
+
+  -- What is still to be stored of a submission under way.
+  to-come : Under (k .K) e (w .dock .records) (w .dock .packets) (firstUnderWay w) (k .before) (k .work) → e .work .busy ≡ true
+      → (length (pending (k .work)) ≡ trbCount (recordUnderWay w) - e .work .stored) × (e .work .stored ≤ trbCount (recordUnderWay w))
+  to-come (rests u) busy = absurd (false≢true (sym (u .free) ∙ busy))
+  to-come (opens u) busy =
+      (rw (u .is) (sym (ap length (u .left-are)) ∙ left-count (k .K) e (w .dock .records) (w .dock .packets)), omega (arith, u .none-stored))
+  to-come (shows u) busy = (rw (u .is) (left-count (k .K) e (w .dock .records) (w .dock .packets)), u .counted)
+  to-come (hides u) busy = (rw (u .is) (left-count (k .K) e (w .dock .records) (w .dock .packets)), u .counted)
+
+  pub stored-is : k .stored ≡ storedCount w
+  unfolding storedCount
+  stored-is =
+      ⊎-elim
+      (λ (busy : e .work .busy ≡ true).
+      let t = to-come (k .under) busy in
+      rw busy (omega (arith, t .0, t .1, k .split, k .begun busy .last)))
+      (λ (free : e .work .busy ≡ false). rw free (all-stored w k free))
+      (true-or-false (e .work .busy))
+
+  -- A TRB's slot, as the statement has it and as the model has it.
+  slot-is : (n : ℕ) → slotOf (slots w) n ≡ (pos (k .K) n) .place
+  slot-is n = let same : slots w - 1 ≡ k .K = omega (arith, k .shape) in rw same (sym (place-at (k .K) some-place n))
+
+  -- Fewer than L-1 TRBs wait.
+  few-wait : length (w .trbs) < length (w .consumed) + k .K
+  few-wait =
+      let m = modelIn (k .K) w (k .before) (k .work) in
+      omega (
+        arith,
+        waiting some-place m (k .inv),
+        k .inv .covered,
+        k .inv .room,
+        length-layout (flat (k .K)) (pos (k .K) 0) (bared (w .trbs)),
+        bared-length (w .trbs),
+      )
+
+  -- Of two TRBs in one slot one is a round behind.
+  round-behind : (i j : ℕ) → (pos (k .K) i) .place ≡ (pos (k .K) j) .place → i < j → i + k .K ≤ j
+  round-behind i j same l =
+      ⊎-elim
+      (λ (near : j < i + k .K). absurd (distinct (k .K) some-place i j l near same))
+      (λ (far : i + k .K ≤ j). far)
+      (lt-or-le j (i + k .K))
+
+-- ---- the event in a finished place
+
+-- It is for TRB number `number`.
+pub record EventOf (w : World) (i : ℕ) (event : Words) : Type 0 where
+  pub number : ℕ
+  pub there : slotOf (slots w) number ≡ i
+  pub stored : number < storedCount w
+  pub latest : (j : ℕ) → j < storedCount w → slotOf (slots w) j ≡ i → j ≤ number
+  pub consumed : number < length (w .consumed)
+  pub coded : accepted (codeOf event) ≡ true
+
+pub event-latest : {w : World} → Run w → (i : ℕ) (event : Words) → i < slots w - 1 → finishedAt (w .dock .finished) i ≡ Event event
+    → EventOf w i event
+event-latest {w} r i event below said =
+    let k = run-kept r in
+    let l = k .places i event (omega (arith, k .shape)) said in
+    let count = stored-is w k in
+    record {
+      number = l .latest;
+      there = slot-is w k (l .latest) ∙ l .there;
+      stored = omega (arith, l .was-stored);
+      latest = λ j was at.
+          ⊎-elim
+          (λ (later : l .latest < j). absurd (omega (arith, round-behind w k (l .latest) j (l .there ∙ sym at ∙ slot-is w k j) later, l .not-again)))
+          (λ (h : j ≤ l .latest). h)
+          (lt-or-le (l .latest) j);
+      consumed = omega (arith, l .was-heard, k .heard-consumed);
+      coded = l .fine;
+    }
+
+-- ---- the slot that a store changes
+
+module _ (w : World) (k : Kept w) (busy : w .dock .endpoint .work .busy ≡ true) (j : ℕ) (was : j < storedCount w) where
+  -- The link's slot is no TRB's.
+  not-link : w .dock .endpoint .at .place + 1 ≡ slots w → slotOf (slots w) j ≡ w .dock .endpoint .at .place → ⊥
+  not-link at-link same = omega (arith, slot-is w k j, slot-lt (k .K) (some-place w k) j, k .shape)
+
+  -- A TRB goes to a slot whose last TRB is a round behind.
+  behind-trb : (w .dock .endpoint .at .place + 1 ≡ slots w → ⊥) → slotOf (slots w) j ≡ w .dock .endpoint .at .place → j < length (w .consumed)
+  behind-trb off same =
+      let at = next-at w k (λ q. off (omega (arith, k .shape))) in
+      let far = round-behind w k j (k .stored) (sym (slot-is w k j) ∙ same ∙ sym at) (omega (arith, stored-is w k)) in
+      omega (arith, few-wait w k, k .split)
+
+  -- The setup is stored again in its own slot.
+  behind-setup : length (w .consumed) ≤ firstUnderWay w → slotOf (slots w) j ≡ w .dock .endpoint .work .place
+      → (j < length (w .consumed)) ⊎ (j ≡ firstUnderWay w)
+  behind-setup unseen same =
+      let b = k .begun busy in
+      let first = firstUnderWay w in
+      let in-one : (pos (k .K) j) .place ≡ (pos (k .K) first) .place = sym (slot-is w k j) ∙ same ∙ sym (b .first-at) in
+      ⊎-elim
+      (λ (q : j ≡ first). inr q)
+      (⊎-elim
+      (λ (h : j < first). inl (omega (arith, round-behind w k j first in-one h, few-wait w k, b .last)))
+      (λ (h : first < j). absurd (omega (arith, round-behind w k first j (sym in-one) h, few-wait w k, k .split, stored-is w k))))
+      (compared j first)
+
+-- A front part of the first n of a list has n elements at most.
+front-short : {A : Type 0} (a l : List A) (n : ℕ) → Front a (take n l) → length a ≤ n
+front-short a l n f = omega (arith, length-append a (f .rest), ap length (f .whole), length-take n l)
+
+module _ (w : World) where
+  slot-of-link : nextStore (w .dock .endpoint) (w .dock .records) ≡ theLink
+      → slotChanged (w .dock .endpoint) (w .dock .records) ≡ w .dock .endpoint .at .place
+  unfolding slotStored
+  slot-of-link q = ap (λ (n : Next). slotStored n (w .dock .endpoint)) q
+
+  slot-of-trb : nextStore (w .dock .endpoint) (w .dock .records) ≡ theTrb
+      → slotChanged (w .dock .endpoint) (w .dock .records) ≡ w .dock .endpoint .at .place
+  unfolding slotStored
+  slot-of-trb q = ap (λ (n : Next). slotStored n (w .dock .endpoint)) q
+
+  slot-of-setup : nextStore (w .dock .endpoint) (w .dock .records) ≡ theSetup
+      → slotChanged (w .dock .endpoint) (w .dock .records) ≡ w .dock .endpoint .work .place
+  unfolding slotStored
+  slot-of-setup q = ap (λ (n : Next). slotStored n (w .dock .endpoint)) q
+
+module _ {w : World} (r : Run w) (busy : w .dock .endpoint .work .busy ≡ true) (j : ℕ) (was : j < storedCount w)
+    (same : slotOf (slots w) j ≡ slotChanged (w .dock .endpoint) (w .dock .records)) where
+  abbrev now : Next
+  now = nextStore (w .dock .endpoint) (w .dock .records)
+
+  some-store : isNone now ≡ false
+  some-store =
+      let d = w .dock in
+      let number = store-number (run-reached r) ∙ ap (λ (b : Bool). pick b 0 10) busy in
+      store-admitted (d .endpoint) (d .ring) (d .finished) (d .records) (d .packets) number .course .more
+
+  by-next : (n : Next) → now ≡ n → (j < length (w .consumed)) ⊎ ((now ≡ theSetup) × (j ≡ firstUnderWay w))
+  by-next theLink q = absurd (not-link w (run-kept r) busy j was (because (w .dock .endpoint) (recordUnderWay w) theLink q) (same ∙ slot-of-link w q))
+  by-next theTrb q = inl (behind-trb w (run-kept r) busy j was (because (w .dock .endpoint) (recordUnderWay w) theTrb q .0) (same ∙ slot-of-trb w q))
+  by-next theSetup q =
+      let c = because (w .dock .endpoint) (recordUnderWay w) theSetup q in
+      let unseen = front-short (w .consumed) (admitted w) (firstUnderWay w) (control-unseen r busy (c .1)) in
+      ⊎-elim
+      (λ (l : j < length (w .consumed)). inl l)
+      (λ (z : j ≡ firstUnderWay w). inr (q, z))
+      (behind-setup w (run-kept r) busy j was unseen (same ∙ slot-of-setup w q))
+  by-next fit.none q = absurd (false≢true (sym some-store ∙ ap isNone q))
+
+  -- A TRB that is stored, in the slot that the next store changes: it is consumed, or it is the setup that is stored again.
+  pub not-overwritten : (j < length (w .consumed)) ⊎ ((nextStore (w .dock .endpoint) (w .dock .records) ≡ theSetup) × (j ≡ firstUnderWay w))
+  not-overwritten = by-next now refl
+
+-- ---- a request leaves flight
+
+-- Whether a record is in flight.
+abbrev pub inFlight : World → ℕ → Bool
+inFlight w r = flies (w .dock .records) (w .dock .endpoint .account .occupancy) r
+
+module _ (w : World) (r : ℕ) where
+  configures-keeps : (packet burst interval : ℕ) → configure (w .dock .endpoint) packet burst interval .endpoint .account ≡ w .dock .endpoint .account
+  unfolding configure
+  configures-keeps packet burst interval =
+      picked (λ (c : Changed). c .endpoint .account ≡ w .dock .endpoint .account) (eqb (plainNo (w .dock .endpoint)) 0) _ _ (λ t. refl) (λ t. refl)
+
+  stores-keeps : afterStore (w .dock) .endpoint .account ≡ w .dock .endpoint .account
+  stores-keeps =
+      let d = w .dock in
+      ⊎-elim
+      (λ (p : storeNo (d .endpoint) (length (d .ring)) (length (d .finished)) (d .records) (length (d .packets)) ≡ 0).
+      store-keeps (d .endpoint) (d .ring) (d .finished) (d .records) (d .packets) p .account)
+      (λ (p : storeNo (d .endpoint) (length (d .ring)) (length (d .finished)) (d .records) (length (d .packets)) ≡ 0 → ⊥).
+      ap (λ s. s .0 .endpoint .account) (store-refuses (d .endpoint) (d .ring) (d .finished) (d .records) (d .packets) p))
+      (same-or-not (storeNo (d .endpoint) (length (d .ring)) (length (d .finished)) (d .records) (length (d .packets))) 0)
+
+  cancels-keeps : (id : ℕ) → flies (afterCancel (w .dock) id .records) (w .dock .endpoint .account .occupancy) r ≡ inFlight w r
+  unfolding cancel
+  cancels-keeps id =
+      let e = w .dock .endpoint in
+      let records = w .dock .records in
+      picked (λ (a : Outcome × List ℕ). flies (a .1) (e .account .occupancy) r ≡ inFlight w r) (eqb (cancelNo e records id) 0) _ _
+      (λ t. flies-alike records _ (e .account .occupancy) r (marked-alike records (findIn records (e .account .occupancy) id)))
+      (λ t. refl)
+
+  -- A start takes a record that is free.
+  starts-keeps : (request : Request) (lengths : List ℕ) → inFlight w r ≡ true
+      → flies (afterStart (w .dock) request lengths .records) (afterStart (w .dock) request lengths .endpoint .account .occupancy) r ≡ true
+  starts-keeps request lengths fly =
+      let e = w .dock .endpoint in
+      let records = w .dock .records in
+      let packets = w .dock .packets in
+      let b = by-flies records (e .account .occupancy) r .so fly in
+      ⊎-elim
+      (λ (p : startNo e records (length packets) request lengths ≡ 0).
+      let free = record-free e records packets request lengths p in
+      let other : r ≡ recordTaken e → ⊥ = λ q. omega (arith, b .0, ap (bit (e .account .occupancy)) q) in
+      rw (start-acts e records packets request lengths p)
+      (if-so (by-flies (startedRecords e records request lengths) (startedEndpoint e records request lengths .account .occupancy) r) (
+        record-taken e records packets request lengths p .others r other ∙ b .0,
+        ap (λ (x : Record). x .state)
+            (records-kept e records packets request lengths p r other) ∙ b .1,
+      )))
+      (λ (p : startNo e records (length packets) request lengths ≡ 0 → ⊥). rw (start-refuses e records packets request lengths p) fly)
+      (same-or-not (startNo e records (length packets) request lengths) 0)
+
+  -- A reclaim frees the record that it looks at, once an event has passed its TRBs, and no other.
+  reclaims-consumed : (h : Sound (w .dock)) (k : Kept w) (id : ℕ) → inFlight w r ≡ true
+      → flies (afterReclaim (w .dock) id .records) (afterReclaim (w .dock) id .endpoint .account .occupancy) r ≡ false
+      → w .first r + recordAt (w .dock .records) r .count ≤ length (w .consumed)
+  unfolding leave
+  reclaims-consumed h k id fly gone =
+      let e = w .dock .endpoint in
+      let records = w .dock .records in
+      let occupancy = e .account .occupancy in
+      let t = reclaim e (w .dock .finished) records (w .dock .packets) id in
+      let b = by-flies records occupancy r .so fly in
+      ⊎-elim
+      (λ (u : Untouched (w .dock) t).
+      absurd (false≢true (sym gone ∙ ap (λ (x : Endpoint). flies (t .1) (x .account .occupancy) r) (u .endpoint)
+      ∙ ap (λ (x : List ℕ). flies x occupancy r) (u .records) ∙ fly)))
+      (λ (u : Looked (w .dock) id t).
+      let alike = u .touches .ownRecord .alike in
+      ⊎-elim
+      (λ (n : t .0 ≡ nothing e).
+      absurd (false≢true (sym gone ∙ ap (λ (x : ReclaimedOne). flies (t .1) (x .endpoint .account .occupancy) r) n
+      ∙ flies-alike records (t .1) occupancy r alike ∙ fly)))
+      (λ (n : Left e (u .number) (flightPart records occupancy (u .number)) (t .0)).
+      ⊎-elim
+      (λ (q : r ≡ u .number).
+      let heard = left-heard w h k id u (n .over) (subst (λ (x : ℕ). inFlight w x ≡ true) q fly) in
+      let here = subst (λ (x : ℕ). w .first x + recordAt records x .count ≤ w .heard) (sym q) heard in
+      omega (arith, k .heard-consumed))
+      (λ (d : r ≡ u .number → ⊥).
+      absurd (false≢true
+      (sym gone
+      ∙ ap (λ (x : Endpoint). flies (t .1) (x .account .occupancy) r) (n .gone)
+      ∙ if-so (by-flies (t .1) (clearBit occupancy (u .number)) r)
+      (freed-other (e .account) records (u .number) (u .lowest .within) r d ∙ b .0, alike .state r ∙ b .1))))
+      (same-or-not r (u .number)))
+      (u .touches .end))
+      (reclaim-result (w .dock) id)
+
+-- Whatever the move: a request that was in flight before it and is not after it has all its TRBs consumed.
+pub leaves-consumed : {w : World} → Run w → (m : Move) → (r : ℕ) → inFlight w r ≡ true → inFlight (act w m) r ≡ false
+    → w .first r + recordAt (w .dock .records) r .count ≤ length (w .consumed)
+unfolding started handed stepped
+leaves-consumed {w} run (configures packet burst interval) r fly gone =
+    absurd (false≢true (sym gone ∙ ap (λ (a : Account). flies (w .dock .records) (a .occupancy) r)
+    (configures-keeps w r packet burst interval) ∙ fly))
+leaves-consumed {w} run (starts request lengths) r fly gone =
+    absurd (false≢true (sym gone ∙ picked (λ (x : World). inFlight x r ≡ true) (admits w request lengths) _ _
+    (λ t. starts-keeps w r request lengths fly) (λ t. starts-keeps w r request lengths fly)))
+leaves-consumed {w} run stores r fly gone =
+    absurd (false≢true (sym gone ∙ ap (λ (a : Account). flies (w .dock .records) (a .occupancy) r) (stores-keeps w r) ∙ fly))
+leaves-consumed {w} run (hands event number) r fly gone = absurd (false≢true (sym gone ∙ fly))
+leaves-consumed {w} run (reclaims id) r fly gone = reclaims-consumed w r (run-sound run) (run-kept run) id fly gone
+leaves-consumed {w} run (cancels id) r fly gone = absurd (false≢true (sym gone ∙ cancels-keeps w r id ∙ fly))
+leaves-consumed {w} run steps r fly gone = absurd (false≢true (sym gone ∙ fly))

@@ -1,0 +1,86 @@
+-- Making: the invariant holds of a dock that is made, with its controller at the outset. Assumes nothing.
+use Prim.Native.Nat.{ℕ, suc, _+_, _-_, _*_}
+use mathlib.Core.Bool.{false≢true}
+use mathlib.Core.List.{List}
+use mathlib.Core.Logic.{⊎-elim}
+use mathlib.Core.Path.{_≡_, refl, sym, ap, _∙_}
+use native.Mathlib.Omega.{arith}
+use borrow.Author.Tests.{not-false}
+use lib.ListN.{length, replicate}
+use Rattle.base.proofs.Compare.{same-or-not}
+use Rattle.mask.proofs.BitLaws.{bit-none}
+use Rattle.trb.specs.Cycle.{typeOf}
+use Rattle.trb.specs.Layouts.{wordsAt}
+use Rattle.trb.specs.declared.Words.{Words}
+use Rattle.table.specs.Finished.{finishedAt}
+use Rattle.table.specs.declared.finished.Finished.the-variants.{Nothing, Event}
+use Rattle.dock.specs.declared.Outcome.the-variants.{Done}
+use Rattle.dock.specs.Make.{make, makeNo, makeTests, zeros}
+use Rattle.dock.specs.State.{fresh}
+use Rattle.dock.proofs.BooksLaws.{by-flies}
+use Rattle.dock.proofs.InvariantLaws.{not-done}
+use Rattle.dock.proofs.Reached.{stateOf}
+use Rattle.dock.proofs.RefusalLaws.{make-exact, make-refuses, make-acts}
+use Rattle.dock.proofs.TestLaws.{by-limits, by-sized}
+use Rattle.order.specs.Flat.{flat, getD-zeros, zeroed}
+use Rattle.order.specs.Model.{idle}
+use Rattle.order.specs.Model as model
+use Rattle.order.proofs.Moves.{made-keeps}
+use Rattle.order.proofs.Numbers.{made-numbered}
+use Rattle.promise.specs.Run.{fromMaking, madeOf}
+use Rattle.promise.proofs.Kept.{Kept, rests}
+
+-- A place of zeros is empty,
+empty : (n i : ℕ) → finishedAt (replicate n 0) i ≡ Nothing
+unfolding finishedAt
+empty n i = rw (getD-zeros n (4 * i + 3))
+
+-- and a slot of zeros is no link.
+zero-type : (n i : ℕ) → typeOf (wordsAt (replicate n 0) i) ≡ 0
+unfolding typeOf wordsAt
+zero-type n i = rw (getD-zeros n (4 * i + 3))
+
+pub never-event : (event : Words) → Nothing ≡ Event event → ⊥
+never-event event e = let z : _≡_ {A = ℕ} 0 1 = cc in omega arith
+
+module _ (ring finished records packets : List ℕ) (slots base mask slot dci : ℕ) where
+  abbrev number : ℕ
+  number = makeNo (length ring) (length finished) (length records) (length packets) slots base slot dci
+
+  fresh-kept : number ≡ 0 → Kept (fromMaking (stateOf (fresh slots base mask slot dci) (zeros ring) (zeros finished) (zeros records) (zeros packets)))
+  unfolding makeTests model.made
+  fresh-kept passed =
+      let tests = make-exact ring finished records packets slots base mask slot dci .passed passed in
+      let limits = by-limits slots base slot dci .so (not-false _ (tests 0 (omega arith))) in
+      let sizes = by-sized slots (length ring) (length finished) (length records) (length packets) .so (not-false _ (tests 1 (omega arith))) in
+      let K : ℕ = slots - 1 in
+      let long : length ring ≡ 4 * suc K = omega (arith, sizes .ring-size, limits .slots-least) in
+      record {
+        K = K;
+        some-slot = omega (arith, limits .slots-least);
+        shape = omega (arith, limits .slots-least);
+        link-slot = λ t. absurd (omega (arith, sym (zero-type (length ring) K) ∙ t));
+        before = 0;
+        work = idle;
+        inv = rw long (made-keeps {S = flat K} (omega (arith, limits .slots-least)) (replicate (4 * suc K) 0) (zeroed K));
+        numbered = rw long (made-numbered {S = flat K} (omega (arith, limits .slots-least)) (replicate (4 * suc K) 0));
+        under = rests (record { free = refl; is = refl });
+        begun = λ b. absurd (false≢true b);
+        stored = 0;
+        split = refl;
+        heard-consumed = omega arith;
+        places = λ i event l e. absurd (never-event event (sym (empty (length finished) i) ∙ e));
+        flights = record {
+          each = λ r l f. absurd (omega (arith, by-flies (zeros records) 0 r .so f .0, bit-none r));
+          all = λ j h l. absurd (omega arith);
+        };
+      }
+
+  pub made-kept : make ring finished records packets slots base mask slot dci .0 .answer ≡ Done
+      → Kept (fromMaking (madeOf ring finished records packets slots base mask slot dci))
+  made-kept done =
+      ⊎-elim
+      (λ (p : number ≡ 0). rw (make-acts ring finished records packets slots base mask slot dci p) (fresh-kept p))
+      (λ (p : number ≡ 0 → ⊥).
+      absurd (not-done number (sym (ap (λ m. m .0 .answer) (make-refuses ring finished records packets slots base mask slot dci p)) ∙ done)))
+      (same-or-not number 0)

@@ -1,0 +1,109 @@
+-- DEMAND 3, of every state that a run reaches. Document 01's calls in any order and with any arguments, and the controller's steps anywhere:
+--   1. `in-order`: what the controller has consumed is a front part of the TRBs of the admitted requests, in order, in their slots and with their final words.
+--   2. `control-unseen`: while a control submission is under way, it is a front part of those admitted before it: none of its own is consumed.
+--      `under-way-last`: its own are the last of the list.
+--   3. `drains`: with no submission under way, L-1 steps of the controller, or more, consume the remainder; `drains-by-count`: one step more than TRBs wait is
+--      enough; `in-ring`: until then the remainder stands in the ring, slot by slot, with its final words.
+-- Assumes nothing.
+use Prim.Native.Nat.{ℕ, zero, suc, _+_, _-_, _<_, _≤_}
+use mathlib.Core.Bool.{true, false, false≢true}
+use mathlib.Core.List.{List, _++_}
+use mathlib.Core.Path.{_≡_, refl, sym, ap, _∙_, subst}
+use native.Mathlib.Omega.{arith}
+use lib.ListN.{length, take}
+use Rattle.table.specs.Records.{control}
+use Rattle.dock.specs.Stores.{trbCount}
+use Rattle.order.specs.Flat.{flat}
+use Rattle.order.specs.Model.{Deferring}
+use Rattle.order.specs.Model as model
+use Rattle.order.proofs.Index.{pos}
+use Rattle.order.proofs.Moves.{length-layout}
+use Rattle.order.proofs.Order.{Front, InRing, inv-in-order, inv-deferred-unseen, inv-drains, inv-drains-by-count, inv-in-ring}
+use Rattle.promise.specs.Controller.{Entry}
+use Rattle.promise.specs.Run.{World, slots, admitted, stepped, stepping, recordUnderWay, firstUnderWay, Run}
+use Rattle.promise.proofs.Handed.{idle-kept}
+use Rattle.promise.proofs.Kept.{modelIn, Under, rests, opens, shows, hides, Kept}
+use Rattle.promise.proofs.Laid.{bared, bared-length, laid-out}
+use Rattle.promise.proofs.Reach.{run-kept}
+use Rattle.promise.proofs.Stepped.{step-is}
+
+module _ (w : World) (k : Kept w) where
+  some-place : 0 < k .K
+  some-place = omega (arith, k .some-slot)
+
+  abbrev m : model.State (flat (k .K))
+  m = modelIn (k .K) w (k .before) (k .work)
+
+  -- The model's list of admitted TRBs is the list that is computed from the requests.
+  pub admitted-is : m .admitted ≡ admitted w
+  admitted-is = laid-out (k .K) (slots w) some-place (k .shape) 0 (w .trbs)
+
+  kept-in-order : Front (w .consumed) (admitted w)
+  kept-in-order = rw (← admitted-is) (inv-in-order m (k .inv))
+
+  -- While a control submission is under way, the model's TD is deferred, and the books have its mark.
+  deferring : w .dock .endpoint .work .busy ≡ true → recordUnderWay w .kind ≡ control
+      → Under (k .K) (w .dock .endpoint) (w .dock .records) (w .dock .packets) (firstUnderWay w) (k .before) (k .work)
+      → Deferring (k .work) × (k .before ≡ firstUnderWay w)
+  deferring busy kind (rests u) = absurd (false≢true (sym (u .free) ∙ busy))
+  deferring busy kind (opens u) = (rw (u .is) tt, u .marked)
+  deferring busy kind (shows u) = absurd (u .kind kind)
+  deferring busy kind (hides u) = (rw (u .is) tt, u .marked)
+
+  kept-unseen : w .dock .endpoint .work .busy ≡ true → recordUnderWay w .kind ≡ control → Front (w .consumed) (take (firstUnderWay w) (admitted w))
+  kept-unseen busy kind =
+      let d = deferring busy kind (k .under) in
+      rw (← admitted-is, ← d .1) (inv-deferred-unseen m (k .inv) (d .0))
+
+-- The model's steps are the controller's.
+steps-are : (K n : ℕ) (w : World) (before : ℕ) (work : model.Work (flat K))
+    → model.steps n (modelIn K w before work) ≡ modelIn K (stepping n w) before work
+unfolding model.steps stepping
+steps-are K zero w before work = refl
+steps-are K (suc n) w before work = ap (model.steps n) (step-is K w before work) ∙ steps-are K n (stepped w) before work
+
+-- ---- the theorem
+
+pub in-order : {w : World} → Run w → Front (w .consumed) (admitted w)
+in-order {w} r = kept-in-order w (run-kept r)
+
+pub control-unseen : {w : World} → Run w → w .dock .endpoint .work .busy ≡ true → recordUnderWay w .kind ≡ control
+    → Front (w .consumed) (take (firstUnderWay w) (admitted w))
+control-unseen {w} r busy kind = kept-unseen w (run-kept r) busy kind
+
+pub drains : {w : World} → Run w → w .dock .endpoint .work .busy ≡ false → (n : ℕ) → slots w - 1 ≤ n → stepping n w .consumed ≡ admitted w
+drains {w} r free n enough =
+    let k = run-kept r in
+    ap (λ (s : model.State (flat (k .K))). s .consumed) (sym (steps-are (k .K) n w (k .before) (k .work)))
+    ∙ inv-drains (some-place w k) (m w k) (k .inv) refl (idle-kept w k free) n (omega (arith, k .shape))
+    ∙ admitted-is w k
+
+pub drains-by-count : {w : World} → Run w → w .dock .endpoint .work .busy ≡ false → (n : ℕ) → length (w .trbs) < length (w .consumed) + n
+    → stepping n w .consumed ≡ admitted w
+drains-by-count {w} r free n enough =
+    let k = run-kept r in
+    ap (λ (s : model.State (flat (k .K))). s .consumed) (sym (steps-are (k .K) n w (k .before) (k .work)))
+    ∙ inv-drains-by-count (some-place w k) (m w k) (k .inv) refl (idle-kept w k free) n
+    (omega (arith, length-layout (flat (k .K)) (pos (k .K) 0) (bared (w .trbs)), bared-length (w .trbs)))
+    ∙ admitted-is w k
+
+-- The TRBs of the submission under way, of any kind, are those from number `firstUnderWay` on, as many as its record says.
+pub under-way-last : {w : World} → Run w → w .dock .endpoint .work .busy ≡ true → firstUnderWay w + trbCount (recordUnderWay w) ≡ length (w .trbs)
+under-way-last r busy = run-kept r .begun busy .last
+
+-- What is admitted and not consumed, and that it is there.
+pub record Waiting (w : World) : Type 0 where
+  pub rest : List Entry
+  pub whole : w .consumed ++ rest ≡ admitted w
+  pub there : InRing (flat (slots w - 1)) (w .dock .ring) rest
+
+pub in-ring : {w : World} → Run w → w .dock .endpoint .work .busy ≡ false → Waiting w
+in-ring {w} r free =
+    let k = run-kept r in
+    let s = inv-in-ring (some-place w k) (m w k) (k .inv) (idle-kept w k free) in
+    let same : k .K ≡ slots w - 1 = omega (arith, k .shape) in
+    record {
+      rest = s .rest;
+      whole = s .whole ∙ admitted-is w k;
+      there = subst (λ (n : ℕ). InRing (flat n) (w .dock .ring) (s .rest)) same (s .there);
+    }

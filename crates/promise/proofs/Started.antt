@@ -1,0 +1,325 @@
+-- The start of a submission keeps the invariant: an admitted one is the model's begin of a TD with the request's TRBs, deferred for a control request, and
+-- its record has them. Assumes nothing.
+use Prim.Native.Nat.{ℕ, suc, _+_, _-_, _<_, _≤_}
+use mathlib.Core.Bool.{Bool, true, false}
+use mathlib.Core.List.{List, [], _∷_, _++_}
+use mathlib.Core.Logic.{⊎-elim}
+use mathlib.Core.Option.{none}
+use mathlib.Core.Path.{_≡_, refl, sym, ap, ap₂, _∙_, subst}
+use native.Mathlib.Omega.{arith}
+use borrow.Author.Tests.{eq-eqb, ne-eqb, eqb-true, eqb-false}
+use lib.Dec.{eqb}
+use lib.ListN.{length, length-append}
+use Rattle.base.proofs.Compare.{same-or-not, lt-or-le}
+use Rattle.base.proofs.Decide.{if-so}
+use Rattle.ids.specs.Free.{recordCount}
+use Rattle.ids.proofs.AnyLaws.{true-or-false}
+use Rattle.mask.specs.Bit.{bit}
+use Rattle.trb.specs.declared.Trb.{Trb}
+use Rattle.trb.specs.declared.Words.{Words}
+use Rattle.table.specs.Records.{control, inFlight, recordAt}
+use Rattle.table.specs.declared.records.Record.{Record}
+use Rattle.dock.specs.declared.Endpoint.{Endpoint}
+use Rattle.dock.specs.declared.Request.{Request}
+use Rattle.dock.specs.declared.Request.the-variants as asks
+use Rattle.dock.specs.Fit.{flies}
+use Rattle.dock.specs.Requests.{required, recordFor}
+use Rattle.dock.specs.Start.{startNo, recordTaken, idTaken, charged, writePackets, startedEndpoint, startedRecords}
+use Rattle.dock.specs.Stores.{trbCount}
+use Rattle.dock.proofs.BooksLaws.{by-flies}
+use Rattle.dock.proofs.Reached.{State, stateOf, Sound}
+use Rattle.dock.proofs.RefusalLaws.{start-acts, start-refuses}
+use Rattle.dock.proofs.StartLaws.{Starting, start-admitted, record-below, record-free, record-taken, record-written, records-kept}
+use Rattle.dock.proofs.StartedLaws.{count-is, required-some}
+use Rattle.order.specs.Flat.{flat}
+use Rattle.order.specs.Model.{Td, Plain, idle, busy, starts, begin, MayBegin}
+use Rattle.order.specs.Model as model
+use Rattle.order.proofs.Index.{pos}
+use Rattle.order.proofs.Moves.{Inv, begin-keeps, length-layout, resting, starts-pending}
+use Rattle.order.proofs.Numbers.{Numbered, begin-numbered}
+use Rattle.promise.specs.Requested.{trbsOf, typed}
+use Rattle.promise.specs.Run.{World, withFirst, withTrbs, admits, started}
+use Rattle.promise.proofs.Asked.{asked-for, trbs-count, trbs-plain, link-is}
+use Rattle.promise.proofs.Awaited.{next-at}
+use Rattle.promise.proofs.Handed.{idle-kept, all-stored}
+use Rattle.promise.proofs.Kept.{positionOf, modelIn, linkWords, left, Under, opens, shows, Kept, Counts, Holds, Owner, Flights}
+use Rattle.promise.proofs.Laid.{bare, bared, bared-length, bared-append}
+
+-- ---- the record of an admitted request
+
+-- Only a control request is deferred.
+abbrev deferred : Request → Bool
+deferred (asks.Control kind request value index address size) = true
+deferred (asks.Bulk incoming address size) = false
+deferred (asks.Interrupt incoming address size) = false
+deferred (asks.Isoch incoming address size) = false
+
+-- The count of its record goes by its kind.
+record-counts : (request : Request) (lengths : List ℕ) (id place : ℕ) → Counts (recordFor request lengths id place)
+record-counts (asks.Control kind request value index address size) lengths id place = record {
+  some = required-some (asks.Control kind request value index address size) lengths;
+  of-control = λ q. refl;
+  of-bulk = λ q. absurd (omega arith);
+  of-interrupt = λ q. absurd (omega arith);
+}
+record-counts (asks.Bulk incoming address size) lengths id place = record {
+  some = omega arith;
+  of-control = λ q. absurd (omega arith);
+  of-bulk = λ q. refl;
+  of-interrupt = λ q. absurd (omega arith);
+}
+record-counts (asks.Interrupt incoming address size) lengths id place = record {
+  some = omega arith;
+  of-control = λ q. absurd (omega arith);
+  of-bulk = λ q. absurd (omega arith);
+  of-interrupt = λ q. refl;
+}
+record-counts (asks.Isoch incoming address size) lengths id place = record {
+  some = omega arith;
+  of-control = λ q. absurd (omega arith);
+  of-bulk = λ q. absurd (omega arith);
+  of-interrupt = λ q. absurd (omega arith);
+}
+
+-- ---- the records in flight, with one more
+
+module _ (K : ℕ) (records after : List ℕ) (occupancy mask : ℕ) (first : ℕ → ℕ) (total heard r : ℕ) (v : Record)
+    (within : r < recordCount) (clear : bit occupancy r ≡ 0) (set : bit mask r ≡ 1) (others : (q : ℕ) → (q ≡ r → ⊥) → bit mask q ≡ bit occupancy q)
+    (written : recordAt after r ≡ v) (kept : (q : ℕ) → (q ≡ r → ⊥) → recordAt after q ≡ recordAt records q)
+    (flying : v .state ≡ inFlight) (at : (pos K total) .place ≡ v .place) (counts : Counts v)
+    (f : Flights K records occupancy first total heard) where
+  abbrev firsts : ℕ → ℕ
+  firsts = withFirst first r total
+
+  here-first : firsts r ≡ total
+  here-first = let q : eqb r r ≡ true = eq-eqb r r refl in rw q
+
+  other-first : (q : ℕ) → (q ≡ r → ⊥) → firsts q ≡ first q
+  other-first q d = rw (ne-eqb q r d)
+
+  was-flying : (q : ℕ) → (q ≡ r → ⊥) → flies after mask q ≡ true → flies records occupancy q ≡ true
+  was-flying q d fly =
+      let b = by-flies after mask q .so fly in
+      if-so (by-flies records occupancy q) (sym (others q d) ∙ b .0, sym (ap (λ (x : Record). x .state) (kept q d)) ∙ b .1)
+
+  still-flying : (q : ℕ) → (q ≡ r → ⊥) → flies records occupancy q ≡ true → flies after mask q ≡ true
+  still-flying q d fly =
+      let b = by-flies records occupancy q .so fly in
+      if-so (by-flies after mask q) (others q d ∙ b .0, ap (λ (x : Record). x .state) (kept q d) ∙ b .1)
+
+  holds-more : (n m k : ℕ) (x : Record) → n ≤ m → Holds K n k x → Holds K m k x
+  holds-more n m k x l h = record { begins = h .begins; ends = omega (arith, h .ends); counts = h .counts }
+
+  each-taken : (q : ℕ) → q < recordCount → flies after mask q ≡ true → Holds K (total + v .count) (firsts q) (recordAt after q)
+  each-taken q l fly =
+      ⊎-elim
+      (λ (e : q ≡ r).
+      subst (λ (x : ℕ). Holds K (total + v .count) (firsts x) (recordAt after x)) (sym e)
+      (rw (here-first, written) (record { begins = at; ends = omega arith; counts = counts })))
+      (λ (d : q ≡ r → ⊥). rw (other-first q d, kept q d)
+      (holds-more total (total + v .count) (first q) (recordAt records q) (omega arith) (f .each q l (was-flying q d fly))))
+      (same-or-not q r)
+
+  all-taken : (j : ℕ) → heard ≤ j → j < total + v .count → Owner after mask firsts j
+  all-taken j h l =
+      ⊎-elim
+      (λ (old : j < total).
+      let o = f .all j h old in
+      let d : o .owner ≡ r → ⊥ = λ e. omega (arith, by-flies records occupancy (o .owner) .so (o .flying) .0, ap (bit occupancy) e) in
+      record {
+        owner = o .owner;
+        within = o .within;
+        flying = still-flying (o .owner) d (o .flying);
+        from = omega (arith, o .from, other-first (o .owner) d);
+        to = omega (arith, o .to, other-first (o .owner) d, ap (λ (x : Record). x .count) (kept (o .owner) d));
+      })
+      (λ (new : total ≤ j).
+      record {
+        owner = r;
+        within = within;
+        flying = if-so (by-flies after mask r) (set, ap (λ (x : Record). x .state) written ∙ flying);
+        from = omega (arith, here-first);
+        to = omega (arith, here-first, ap (λ (x : Record). x .count) written);
+      })
+      (lt-or-le j total)
+
+  pub flights-taken : Flights K after mask firsts (total + v .count) heard
+  flights-taken = record { each = each-taken; all = all-taken }
+
+-- ---- the TD of a request
+
+cons-of : (l : List Trb) → 0 < length l → (t : Trb) × ((ts : List Trb) × (l ≡ t ∷ ts))
+cons-of [] h = absurd (omega arith)
+cons-of (t ∷ ts) h = (t, (ts, refl))
+
+module _ (K : ℕ) (e : Endpoint) (request : Request) (t : Trb) (ts : List Trb) where
+  abbrev tdOf : Td (flat K)
+  tdOf = record { first = bare t; rest = bared ts; link = linkWords e; deferred = deferred request }
+
+-- What is under way after a start: a control request opens; of any other the first TRB will be the controller's at once.
+module _ (K : ℕ) (e : Endpoint) (records packets : List ℕ) (mark before : ℕ) (lengths : List ℕ) (id place : ℕ) (t : Trb) (ts : List Trb)
+    (taken : e .work .busy ≡ true) (none-stored : e .work .stored ≡ 0) (are : left K e records packets ≡ bare t ∷ bared ts) where
+  shown : (recordAt records (e .work .number) .kind ≡ control → ⊥)
+      → Under K e records packets mark before (busy (bare t ∷ bared ts) (linkWords e) none)
+  shown other =
+      shows (record { taken = taken; kind = other; counted = omega arith; is = ap (λ (l : List Words). busy l (linkWords e) none) (sym are) })
+
+  under-way : (request : Request) → recordAt records (e .work .number) ≡ recordFor request lengths id place
+      → record { place = e .work .place; cycle = e .work .cycle } ≡ positionOf (e .at) → before ≡ mark
+      → Under K e records packets mark before (starts (tdOf K e request t ts) (deferred request))
+  under-way (asks.Control kind request value index address size) written at marked =
+      opens (record {
+        taken = taken;
+        kind = ap (λ (x : Record). x .kind) written;
+        none-stored = none-stored;
+        at-setup = at;
+        setup = bare t;
+        others = bared ts;
+        left-are = are;
+        marked = marked;
+        is = refl;
+      })
+  under-way (asks.Bulk incoming address size) written at marked = shown (λ q. omega (arith, ap (λ (x : Record). x .kind) written))
+  under-way (asks.Interrupt incoming address size) written at marked = shown (λ q. omega (arith, ap (λ (x : Record). x .kind) written))
+  under-way (asks.Isoch incoming address size) written at marked = shown (λ q. omega (arith, ap (λ (x : Record). x .kind) written))
+
+-- ---- an admitted start
+
+module _ (w : World) (request : Request) (lengths : List ℕ) (h : Sound (w .dock)) (k : Kept w) (fits : typed request ≡ true)
+    (passed : startNo (w .dock .endpoint) (w .dock .records) (length (w .dock .packets)) request lengths ≡ 0) where
+  abbrev e : Endpoint
+  e = w .dock .endpoint
+
+  abbrev old : List ℕ
+  old = w .dock .records
+
+  abbrev r : ℕ
+  r = recordTaken e
+
+  abbrev id : ℕ
+  id = idTaken e old
+
+  abbrev trbs : List Trb
+  trbs = trbsOf (e .periodic) request lengths
+
+  abbrev begunWith : Endpoint
+  begunWith = startedEndpoint e old request lengths
+
+  abbrev records : List ℕ
+  records = startedRecords e old request lengths
+
+  abbrev packets : List ℕ
+  packets = writePackets (w .dock .packets) r request lengths
+
+  s : Starting e old (w .dock .packets) request lengths
+  s = start-admitted e old (w .dock .packets) request lengths passed
+
+  written : recordAt records r ≡ recordFor request lengths id (e .at .place)
+  written = record-written e old (w .dock .packets) request lengths passed
+
+  some-place : 0 < k .K
+  some-place = omega (arith, k .some-slot)
+
+  still : k .work ≡ idle
+  still = idle-kept w k (s .resting)
+
+  -- The producer stands at the number of the first TRB.
+  producer-at : (pos (k .K) (length (w .trbs))) .place ≡ e .at .place
+  producer-at =
+      let off = resting some-place (modelIn (k .K) w (k .before) (k .work)) (k .inv) still .off-link in
+      ap (λ (n : ℕ). (pos (k .K) n) .place) (sym (all-stored w k (s .resting))) ∙ next-at w k off
+
+  -- What is to be stored are the TRBs of the request.
+  to-store : left (k .K) begunWith records packets ≡ bared trbs
+  unfolding startedEndpoint
+  to-store =
+      let count : trbCount (recordFor request lengths id (e .at .place)) - 0 ≡ required request lengths =
+      omega (arith, count-is request lengths id (e .at .place) (s .short)) in
+      rw (written, count)
+      (ap bared
+      (asked-for lengths id (e .at .place) r (w .dock .packets) (h .packetsLong)
+      (record-below e old (w .dock .packets) request lengths passed) begunWith refl refl request (s .short) fits refl))
+
+  started-with : (t : Trb) (ts : List Trb) → trbs ≡ t ∷ ts
+      → Kept (withTrbs w (stateOf begunWith (w .dock .ring) (w .dock .finished) records packets) r trbs)
+  unfolding startedEndpoint charged begin
+  started-with t ts are =
+      let K = k .K in
+      let m = modelIn K w (k .before) (k .work) in
+      let td = tdOf K e request t ts in
+      let total = length (w .trbs) in
+      let count : length trbs ≡ required request lengths = trbs-count (e .periodic) request lengths in
+      let count-t : length trbs ≡ suc (length ts) = ap length are in
+      let bare-t : length (bared ts) ≡ length ts = bared-length ts in
+      let before = length (model.layout (flat K) (pos K 0) (bared (w .trbs))) in
+      let may : MayBegin m td =
+      record {
+        none-under-way = still;
+        running = refl;
+        room = omega (arith, s .room, k .shape);
+        plain = subst (λ (l : List Trb). Plain (flat K) (bared l)) are (trbs-plain K (e .periodic) request lengths);
+        linked = link-is (e .shape .base);
+      } in
+      let inv = begin-keeps some-place m (k .inv) td may in
+      let num = begin-numbered some-place m (k .inv) td still (bared (w .trbs)) (k .numbered) in
+      let joined : bared (w .trbs) ++ bare t ∷ bared ts ≡ bared (w .trbs ++ trbs) =
+      sym (bared-append (w .trbs) trbs ∙ ap (λ (l : List Trb). bared (w .trbs) ++ bared l) are) in
+      let same : begin m td ≡ modelIn K (withTrbs w (stateOf begunWith (w .dock .ring) (w .dock .finished) records packets) r trbs) before
+      (starts td (deferred request)) =
+      ap₂ (λ (a : List (model.Entry (flat K))) (o : ℕ). model.booked m (starts td (deferred request)) a before o)
+      (num .by-number ∙ ap (model.layout (flat K) (pos K 0)) joined) (omega arith) in
+      let all = all-stored w k (s .resting) in
+      let here : withFirst (w .first) r total r ≡ total = (let q : eqb r r ≡ true = eq-eqb r r refl in rw q refl) in
+      let its : trbCount (recordAt records r) ≡ required request lengths =
+      ap trbCount written ∙ count-is request lengths id (e .at .place) (s .short) in
+      let last : withFirst (w .first) r total r + trbCount (recordAt records r) ≡ length (w .trbs ++ trbs) =
+      omega (arith, length-append (w .trbs) trbs) in
+      let taken-bits = record-taken e old (w .dock .packets) request lengths passed in
+      let longer : length (w .trbs ++ trbs) ≡ total + required request lengths = omega (arith, length-append (w .trbs) trbs) in
+      record {
+        K = K;
+        some-slot = k .some-slot;
+        shape = k .shape;
+        link-slot = k .link-slot;
+        before = before;
+        work = starts td (deferred request);
+        inv = subst (λ (x : model.State (flat K)). Inv x) same inv;
+        numbered = subst (λ (x : model.State (flat K)). Numbered x (bared (w .trbs ++ trbs))) same (rw joined at num);
+        under =
+            under-way K begunWith records packets (withFirst (w .first) r total r) before lengths id
+            (e .at .place) t ts refl refl (to-store ∙ ap bared are) request written refl
+            (length-layout (flat K) (pos K 0) (bared (w .trbs)) ∙ bared-length (w .trbs) ∙ sym here);
+        begun = λ b. record { last = last; first-at = ap (λ (n : ℕ). (pos K n) .place) here ∙ producer-at };
+        stored = k .stored;
+        split = rw (starts-pending td (deferred request)) (omega arith);
+        heard-consumed = k .heard-consumed;
+        places = k .places;
+        flights = rw longer
+            (flights-taken K old records (e .account .occupancy) (begunWith .account .occupancy) (w .first) total
+            (w .heard) r (recordFor request lengths id (e .at .place))
+            (record-below e old (w .dock .packets) request lengths passed) (record-free e old (w .dock .packets) request lengths passed)
+            (taken-bits .here) (taken-bits .others)
+            written (records-kept e old (w .dock .packets) request lengths passed) refl producer-at
+            (record-counts request lengths id (e .at .place)) (k .flights));
+      }
+
+  pub admitted-kept : Kept (withTrbs w (stateOf begunWith (w .dock .ring) (w .dock .finished) records packets) r trbs)
+  admitted-kept =
+      let c = cons-of trbs (omega (arith, trbs-count (e .periodic) request lengths, required-some request lengths)) in
+      started-with (c .0) (c .1 .0) (c .1 .1)
+
+-- ---- the call
+
+pub started-kept : (w : World) (request : Request) (lengths : List ℕ) → Sound (w .dock) → Kept w → typed request ≡ true
+    → Kept (started w request lengths)
+unfolding started admits
+started-kept w request lengths h k fits =
+    let e = w .dock .endpoint in
+    let old = w .dock .records in
+    ⊎-elim
+    (λ (t : admits w request lengths ≡ true).
+    let passed = eqb-true _ _ t in
+    rw (t, start-acts e old (w .dock .packets) request lengths passed) (admitted-kept w request lengths h k fits passed))
+    (λ (t : admits w request lengths ≡ false).
+    rw (t, start-refuses e old (w .dock .packets) request lengths (eqb-false _ _ t)) k)
+    (true-or-false (admits w request lengths))

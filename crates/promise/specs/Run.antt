@@ -1,0 +1,184 @@
+-- A run: a dock that is made, any calls of it in any order, refused or not, and steps of its controller anywhere, also between two stores. The premises
+-- stand in `may`, and are document 01's: "an event handed over is for a TRB that the controller consumed, each at most once, in that order, coded
+-- Success or Short Packet, between submissions". An event that the dock refuses is not bound by them, and one that comes while a submission is under way is
+-- refused (12). Not every consumed TRB need have an event.
+use Prim.Native.Nat.{ℕ, zero, suc, _+_}
+use mathlib.Core.Bool.{Bool, true, not, _&&_, _||_}
+use mathlib.Core.List.{List, [], _∷_, _++_}
+use mathlib.Core.Path.{_≡_}
+use lib.Dec.{eqb, leb, ltb}
+use lib.ListN.{length}
+use Rattle.base.specs.First.{pick}
+use Rattle.trb.specs.Cycle.{Pointer}
+use Rattle.trb.specs.Event.{eventOf}
+use Rattle.trb.specs.declared.Trb.{Trb}
+use Rattle.trb.specs.declared.Words.{Words}
+use Rattle.ring.specs.Ring.{slotAddress}
+use Rattle.table.specs.Records.{recordAt}
+use Rattle.table.specs.declared.records.Record.{Record}
+use Rattle.dock.specs.declared.Outcome.the-variants.{Done}
+use Rattle.dock.specs.declared.Request.{Request}
+use Rattle.dock.specs.HandOver.{handOverNo}
+use Rattle.dock.specs.Make.{make}
+use Rattle.dock.specs.Reclaim.{codeOf}
+use Rattle.dock.specs.Start.{startNo, recordTaken}
+use Rattle.dock.specs.Worth.{accepted}
+use Rattle.dock.proofs.Reached.{State, stateOf, afterConfigure, afterStart, afterStore, afterHandOver, afterReclaim, afterCancel}
+use Rattle.promise.specs.Controller.{Entry, does, goes, with, outset}
+use Rattle.promise.specs.Requested.{trbsOf, typed, laidOut}
+
+-- The dock with its tables, its controller, and the books that the theorem speaks of.
+pub record World : Type 0 where
+  pub dock : State
+  pub controller : Pointer
+  -- what the controller has consumed, in order, as it read it
+  pub consumed : List Entry
+  -- the TRBs of the requests that were admitted, in order
+  pub trbs : List Trb
+  -- of each record, the number of the first TRB of the last request that was given it
+  pub first : ℕ → ℕ
+  -- one more than the number of the last TRB that an event came for
+  pub heard : ℕ
+
+abbrev pub slots : World → ℕ
+slots w = w .dock .endpoint .shape .slots
+
+-- THE LIST OF ADMITTED TRBS: computed from the requests by the layouts, and not from the ring.
+abbrev pub admitted : World → List Entry
+admitted w = laidOut (slots w) 0 (w .trbs)
+
+-- ---- what a move does
+
+abbrev pub withDock : World → State → World
+withDock w d = record { dock = d; controller = w .controller; consumed = w .consumed; trbs = w .trbs; first = w .first; heard = w .heard }
+
+-- A start is admitted where its number is 0. Its TRBs are numbered on, and its record has the first of them.
+unfoldable pub admits : World → Request → List ℕ → Bool
+admits w request lengths =
+    let d = w .dock in
+    eqb (startNo (d .endpoint) (d .records) (length (d .packets)) request lengths) 0
+
+abbrev pub withFirst : (ℕ → ℕ) → ℕ → ℕ → ℕ → ℕ
+withFirst first r n q = pick (eqb q r) n (first q)
+
+abbrev pub withTrbs : World → State → ℕ → List Trb → World
+withTrbs w d r ts =
+    record {
+      dock = d;
+      controller = w .controller;
+      consumed = w .consumed;
+      trbs = w .trbs ++ ts;
+      first = withFirst (w .first) r (length (w .trbs));
+      heard = w .heard;
+    }
+
+unfoldable pub started : World → Request → List ℕ → World
+started w request lengths =
+    let e = w .dock .endpoint in
+    let d = afterStart (w .dock) request lengths in
+    pick (admits w request lengths) (withTrbs w d (recordTaken e) (trbsOf (e .periodic) request lengths)) (withDock w d)
+
+-- An event is taken where its number is 0.
+unfoldable pub takes : World → Words → Bool
+takes w event = let d = w .dock in eqb (handOverNo (d .endpoint) (length (d .finished)) event) 0
+
+abbrev pub withHeard : World → State → ℕ → World
+withHeard w d n = record { dock = d; controller = w .controller; consumed = w .consumed; trbs = w .trbs; first = w .first; heard = n }
+
+unfoldable pub handed : World → Words → ℕ → World
+handed w event n = withHeard w (afterHandOver (w .dock) event) (pick (takes w event) (suc n) (w .heard))
+
+-- One step of the controller.
+unfoldable pub stepped : World → World
+stepped w =
+    let c = w .controller in
+    let x = does (w .dock .ring) c in
+    record { dock = w .dock; controller = goes x c; consumed = with x c (w .consumed); trbs = w .trbs; first = w .first; heard = w .heard }
+
+-- An event is handed over with the number of the TRB that it is for, counted from 0 in the order of consumption.
+pub data Move : Type 0 where
+  configures : (packet burst interval : ℕ) → Move
+  starts : Request → (lengths : List ℕ) → Move
+  stores : Move
+  hands : (event : Words) (number : ℕ) → Move
+  reclaims : (id : ℕ) → Move
+  cancels : (id : ℕ) → Move
+  steps : Move
+
+abbrev pub act : World → Move → World
+act w (configures packet burst interval) = withDock w (afterConfigure (w .dock) packet burst interval)
+act w (starts request lengths) = started w request lengths
+act w stores = withDock w (afterStore (w .dock))
+act w (hands event number) = handed w event number
+act w (reclaims id) = withDock w (afterReclaim (w .dock) id)
+act w (cancels id) = withDock w (afterCancel (w .dock) id)
+act w steps = stepped w
+
+-- ---- the premises
+
+-- The slot of the TRB number n that was consumed.
+abbrev pub slotAt : List Entry → ℕ → ℕ
+slotAt [] n = 0
+slotAt (e ∷ es) zero = e .at
+slotAt (e ∷ es) (suc n) = slotAt es n
+
+-- The event is for TRB number n: consumed, past the last one that an event came for, at its address, and coded 1 or 13.
+unfoldable pub isFor : World → Words → ℕ → Bool
+isFor w event n =
+    leb (w .heard) n
+    && ltb n (length (w .consumed))
+    && eqb (eventOf event .address) (slotAddress (w .dock .endpoint .shape .base) (slotAt (w .consumed) n))
+    && accepted (codeOf event)
+
+abbrev pub may : World → Move → Bool
+may w (configures packet burst interval) = true
+may w (starts request lengths) = typed request
+may w stores = true
+may w (hands event number) = not (takes w event) || isFor w event number
+may w (reclaims id) = true
+may w (cancels id) = true
+may w steps = true
+
+-- ---- runs
+
+-- A dock as making leaves it, with its controller at the outset.
+abbrev pub fromMaking : State → World
+fromMaking d = record { dock = d; controller = outset; consumed = []; trbs = []; first = λ r. 0; heard = 0 }
+
+abbrev pub madeOf : List ℕ → List ℕ → List ℕ → List ℕ → ℕ → ℕ → ℕ → ℕ → ℕ → State
+madeOf ring finished records packets slots base mask slot dci =
+    let m = make ring finished records packets slots base mask slot dci in
+    stateOf (m .0 .endpoint) (m .1) (m .2) (m .3) (m .4)
+
+pub data Run : World → Type 0 where
+  made : (ring finished records packets : List ℕ) (slots base mask slot dci : ℕ)
+      → make ring finished records packets slots base mask slot dci .0 .answer ≡ Done
+      → Run (fromMaking (madeOf ring finished records packets slots base mask slot dci))
+  andThen : {w : World} → Run w → (m : Move) → may w m ≡ true → Run (act w m)
+
+-- Many steps of the controller.
+unfoldable pub stepping : ℕ → World → World
+stepping zero w = w
+stepping (suc n) w = stepping n (stepped w)
+
+-- The record of the submission under way, and the number of its first TRB.
+abbrev pub recordUnderWay : World → Record
+recordUnderWay w = recordAt (w .dock .records) (w .dock .endpoint .work .number)
+
+abbrev pub firstUnderWay : World → ℕ
+firstUnderWay w = w .first (w .dock .endpoint .work .number)
+
+-- How many TRBs are stored: all that are admitted but, while a submission is under way, those of it that are still to come.
+unfoldable pub storedCount : World → ℕ
+storedCount w =
+    let work = w .dock .endpoint .work in
+    pick (work .busy) (firstUnderWay w + work .stored) (length (w .trbs))
+
+-- Many moves, and whether each may be made in its turn.
+unfoldable pub play : World → List Move → World
+play w [] = w
+play w (m ∷ ms) = play (act w m) ms
+
+unfoldable pub allowed : World → List Move → Bool
+allowed w [] = true
+allowed w (m ∷ ms) = may w m && allowed (act w m) ms
