@@ -1,0 +1,2 @@
+-- The laws of what crosses.
+pub mod SavedLaws
