@@ -8,10 +8,7 @@ fn main() {
         None => PathBuf::from(env!("CARGO_MANIFEST_DIR")).join("../../target/staticlib"),
     };
     println!("cargo:rerun-if-env-changed=THNAOLUPS_LIB_DIR");
-    println!(
-        "cargo:rerun-if-changed={}",
-        folder.join("libdock_c.a").display()
-    );
+    println!("cargo:rerun-if-changed={}", folder.join("libdock_c.a").display());
     println!("cargo:rustc-link-search=native={}", folder.display());
     println!("cargo:rustc-link-lib=static=dock_c");
 }

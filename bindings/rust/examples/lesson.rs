@@ -8,7 +8,12 @@ const BASE: u64 = 0x1_0000;
 
 /// The words of a transfer event for a slot: what a controller writes.
 fn event(slot: usize, code: u32, remaining: u32) -> [u32; 4] {
-    [(BASE as u32) + 16 * slot as u32, 0, code << 24 | remaining, 1 << 24 | 3 << 16 | 32 << 10]
+    [
+        (BASE as u32) + 16 * slot as u32,
+        0,
+        code << 24 | remaining,
+        1 << 24 | 3 << 16 | 32 << 10,
+    ]
 }
 
 fn main() -> Answer<()> {

@@ -50,13 +50,7 @@ pub fn configure(state: &mut [u64], packet: u16, burst: u8, interval: u8) -> u32
 }
 
 /// Starts a submission: takes id, record and count, and stores no TRB.
-pub fn start(
-    state: &mut [u64],
-    records: &mut [u64],
-    packets: &mut [u64],
-    request: &[u64],
-    lengths: &[u64],
-) -> u32 {
+pub fn start(state: &mut [u64], records: &mut [u64], packets: &mut [u64], request: &[u64], lengths: &[u64]) -> u32 {
     unsafe {
         raw::thn_start(
             state.as_mut_ptr(),
@@ -74,14 +68,7 @@ pub fn start(
 }
 
 /// The next store of the submission under way: the slot that changed; after the last also the id and the doorbell word.
-pub fn store(
-    state: &mut [u64],
-    answer: &mut [u64],
-    ring: &mut [u32],
-    finished: &mut [u32],
-    records: &[u64],
-    packets: &[u64],
-) -> u32 {
+pub fn store(state: &mut [u64], answer: &mut [u64], ring: &mut [u32], finished: &mut [u32], records: &[u64], packets: &[u64]) -> u32 {
     unsafe {
         raw::thn_store(
             state.as_mut_ptr(),
@@ -154,14 +141,7 @@ pub fn hand_over(state: &[u64], answer: &mut [u64], finished: &mut [u32], event:
 }
 
 /// Reclaims a request by its id: the id, the bytes moved, 1 where there are any and they came in, its record, its packets. 8 has the code.
-pub fn reclaim(
-    state: &mut [u64],
-    answer: &mut [u64],
-    finished: &[u32],
-    records: &mut [u64],
-    packets: &mut [u64],
-    id: u64,
-) -> u32 {
+pub fn reclaim(state: &mut [u64], answer: &mut [u64], finished: &[u32], records: &mut [u64], packets: &mut [u64], id: u64) -> u32 {
     unsafe {
         raw::thn_reclaim(
             state.as_mut_ptr(),
@@ -181,27 +161,12 @@ pub fn reclaim(
 
 /// Cancels a request: its reclaim will answer 7.
 pub fn cancel(state: &[u64], records: &mut [u64], id: u64) -> u32 {
-    unsafe {
-        raw::thn_cancel(
-            state.as_ptr(),
-            state.len(),
-            records.as_mut_ptr(),
-            records.len(),
-            id,
-        )
-    }
+    unsafe { raw::thn_cancel(state.as_ptr(), state.len(), records.as_mut_ptr(), records.len(), id) }
 }
 
 /// After a stop: every request in flight becomes stopped.
 pub fn retire(state: &mut [u64], records: &mut [u64]) -> u32 {
-    unsafe {
-        raw::thn_retire(
-            state.as_mut_ptr(),
-            state.len(),
-            records.as_mut_ptr(),
-            records.len(),
-        )
-    }
+    unsafe { raw::thn_retire(state.as_mut_ptr(), state.len(), records.as_mut_ptr(), records.len()) }
 }
 
 /// Begins a reset: no value where nothing is halted, else the words of two commands.
@@ -225,36 +190,15 @@ pub fn end_reset(state: &mut [u64], worked: u32) -> u32 {
 
 /// The four words of the command that stops the endpoint.
 pub fn stop(state: &[u64], answer: &mut [u64]) -> u32 {
-    unsafe {
-        raw::thn_stop(
-            state.as_ptr(),
-            state.len(),
-            answer.as_mut_ptr(),
-            answer.len(),
-        )
-    }
+    unsafe { raw::thn_stop(state.as_ptr(), state.len(), answer.as_mut_ptr(), answer.len()) }
 }
 
 /// The four words of the command with which it goes on at the producer's place.
 pub fn resume(state: &[u64], answer: &mut [u64]) -> u32 {
-    unsafe {
-        raw::thn_resume(
-            state.as_ptr(),
-            state.len(),
-            answer.as_mut_ptr(),
-            answer.len(),
-        )
-    }
+    unsafe { raw::thn_resume(state.as_ptr(), state.len(), answer.as_mut_ptr(), answer.len()) }
 }
 
 /// The address at which the producer stands, and its cycle.
 pub fn pointer(state: &[u64], answer: &mut [u64]) -> u32 {
-    unsafe {
-        raw::thn_pointer(
-            state.as_ptr(),
-            state.len(),
-            answer.as_mut_ptr(),
-            answer.len(),
-        )
-    }
+    unsafe { raw::thn_pointer(state.as_ptr(), state.len(), answer.as_mut_ptr(), answer.len()) }
 }

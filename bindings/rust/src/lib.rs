@@ -148,16 +148,7 @@ impl Request<'_> {
                 index,
                 address,
                 length,
-            } => [
-                0,
-                0,
-                kind.into(),
-                request.into(),
-                value.into(),
-                index.into(),
-                address,
-                length,
-            ],
+            } => [0, 0, kind.into(), request.into(), value.into(), index.into(), address, length],
             Request::Bulk {
                 direction,
                 address,
@@ -187,16 +178,7 @@ impl Request<'_> {
 }
 
 fn plain(kind: u64, direction: Direction, address: u64, length: u64) -> [u64; REQUEST_WORDS] {
-    [
-        kind,
-        (direction == Direction::In).into(),
-        0,
-        0,
-        0,
-        0,
-        address,
-        length,
-    ]
+    [kind, (direction == Direction::In).into(), 0, 0, 0, 0, address, length]
 }
 
 /// Why a call was not done: the rows of document 01's "When the dock says no". A refusal leaves everything as it was, but for
@@ -537,19 +519,13 @@ impl<'a> Ring<'a> {
 
     /// The packets of a request that is done, in order. They stand until a submission takes its record again, so they are read next.
     pub fn packets(&self, done: &Completion) -> impl Iterator<Item = Packet> + '_ {
-        let at = done
-            .record
-            .saturating_mul(PACKETS)
-            .min(self.tables.packets.len());
+        let at = done.record.saturating_mul(PACKETS).min(self.tables.packets.len());
         let count = done.packets;
-        self.tables.packets[at..]
-            .iter()
-            .take(count)
-            .map(|w| Packet {
-                requested: *w as u32,
-                counted: (w >> 32) as u32 & 0x7fff_ffff,
-                told: w >> 63 != 0,
-            })
+        self.tables.packets[at..].iter().take(count).map(|w| Packet {
+            requested: *w as u32,
+            counted: (w >> 32) as u32 & 0x7fff_ffff,
+            told: w >> 63 != 0,
+        })
     }
 
     /// Cancels a request: its reclaim will answer [`Refusal::Cancelled`].

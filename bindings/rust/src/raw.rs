@@ -32,13 +32,7 @@ extern "C" {
         slot: u8,
         dci: u8,
     ) -> u32;
-    pub fn thn_configure(
-        state: *mut u64,
-        state_len: usize,
-        packet: u16,
-        burst: u8,
-        interval: u8,
-    ) -> u32;
+    pub fn thn_configure(state: *mut u64, state_len: usize, packet: u16, burst: u8, interval: u8) -> u32;
     pub fn thn_start(
         state: *mut u64,
         state_len: usize,
@@ -108,19 +102,8 @@ extern "C" {
         packets_len: usize,
         id: u64,
     ) -> u32;
-    pub fn thn_cancel(
-        state: *const u64,
-        state_len: usize,
-        records: *mut u64,
-        records_len: usize,
-        id: u64,
-    ) -> u32;
-    pub fn thn_retire(
-        state: *mut u64,
-        state_len: usize,
-        records: *mut u64,
-        records_len: usize,
-    ) -> u32;
+    pub fn thn_cancel(state: *const u64, state_len: usize, records: *mut u64, records_len: usize, id: u64) -> u32;
+    pub fn thn_retire(state: *mut u64, state_len: usize, records: *mut u64, records_len: usize) -> u32;
     pub fn thn_begin_reset(
         state: *mut u64,
         state_len: usize,
@@ -130,22 +113,7 @@ extern "C" {
         records_len: usize,
     ) -> u32;
     pub fn thn_end_reset(state: *mut u64, state_len: usize, worked: u32) -> u32;
-    pub fn thn_stop(
-        state: *const u64,
-        state_len: usize,
-        answer: *mut u64,
-        answer_len: usize,
-    ) -> u32;
-    pub fn thn_resume(
-        state: *const u64,
-        state_len: usize,
-        answer: *mut u64,
-        answer_len: usize,
-    ) -> u32;
-    pub fn thn_pointer(
-        state: *const u64,
-        state_len: usize,
-        answer: *mut u64,
-        answer_len: usize,
-    ) -> u32;
+    pub fn thn_stop(state: *const u64, state_len: usize, answer: *mut u64, answer_len: usize) -> u32;
+    pub fn thn_resume(state: *const u64, state_len: usize, answer: *mut u64, answer_len: usize) -> u32;
+    pub fn thn_pointer(state: *const u64, state_len: usize, answer: *mut u64, answer_len: usize) -> u32;
 }

@@ -41,7 +41,9 @@ fn samples() {
     let crates = Path::new(env!("CARGO_MANIFEST_DIR")).join("../../crates");
     let mut folders: Vec<_> = fs::read_dir(crates).unwrap().map(|entry| entry.unwrap().path()).collect();
     folders.retain(|path| PROGRAMS.iter().any(|name| path.file_name().is_some_and(|f| f == *name)));
-    folders.extend(std::env::split_paths(&std::env::var("THNAOLUPS_SAMPLES").unwrap_or_default()));
+    if let Some(more) = std::env::var_os("THNAOLUPS_SAMPLES") {
+        folders.extend(std::env::split_paths(&more));
+    }
     for folder in folders {
         let lines = replay(&folder.join("stdin"), &folder.join("stdout"));
         println!("{}: {lines} lines", folder.display());

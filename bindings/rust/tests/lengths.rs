@@ -51,11 +51,31 @@ const CALLS: usize = 14;
 fn call(number: usize, l: &mut Lent) -> u32 {
     let event = [0x1_0000, 0, 0x0100_0000, 0x0101_8000];
     match number {
-        0 => calls::make(&mut l.state, &mut l.ring, &mut l.finished, &mut l.records, &mut l.packets, SLOTS, 0x1_0000, u64::MAX, 1, 1),
+        0 => calls::make(
+            &mut l.state,
+            &mut l.ring,
+            &mut l.finished,
+            &mut l.records,
+            &mut l.packets,
+            SLOTS,
+            0x1_0000,
+            u64::MAX,
+            1,
+            1,
+        ),
         1 => calls::configure(&mut l.state, 192, 0, 1),
         2 => calls::start(&mut l.state, &mut l.records, &mut l.packets, &l.request, &l.lengths),
         3 => calls::store(&mut l.state, &mut l.answer, &mut l.ring, &mut l.finished, &l.records, &l.packets),
-        4 => calls::submit(&mut l.state, &mut l.answer, &mut l.ring, &mut l.finished, &mut l.records, &mut l.packets, &l.request, &l.lengths),
+        4 => calls::submit(
+            &mut l.state,
+            &mut l.answer,
+            &mut l.ring,
+            &mut l.finished,
+            &mut l.records,
+            &mut l.packets,
+            &l.request,
+            &l.lengths,
+        ),
         5 => calls::hand_over(&l.state, &mut l.answer, &mut l.finished, event),
         6 => calls::reclaim(&mut l.state, &mut l.answer, &l.finished, &mut l.records, &mut l.packets, 1),
         7 => calls::cancel(&l.state, &mut l.records, 1),
@@ -103,7 +123,15 @@ fn resize(l: &mut Lent, part: usize, length: usize) {
 }
 
 fn length(l: &Lent, part: usize) -> usize {
-    [l.state.len(), l.answer.len(), l.ring.len(), l.finished.len(), l.records.len(), l.packets.len(), l.request.len()][part]
+    [
+        l.state.len(),
+        l.answer.len(),
+        l.ring.len(),
+        l.finished.len(),
+        l.records.len(),
+        l.packets.len(),
+        l.request.len(),
+    ][part]
 }
 
 /// The answer's words are told anew by every call that is lent them with their length; all else must be as it was.
@@ -115,8 +143,8 @@ fn same_but_answer(before: &Lent, after: &Lent) -> bool {
 
 #[test]
 fn fitting_lengths() {
-    for number in 0..CALLS {
-        assert_eq!(call(number, &mut made()), FITTING[number], "call {number}");
+    for (number, fitting) in FITTING.iter().enumerate() {
+        assert_eq!(call(number, &mut made()), *fitting, "call {number}");
     }
 }
 
@@ -265,7 +293,10 @@ fn forged_words() {
         match no {
             0 | 7 | 8 | 9 => {}
             10 => assert_eq!(before.state, lent.state, "turn {turn}: call {number}"),
-            _ => assert!(same_but_answer(&before, &lent), "turn {turn}: call {number} refused ({no}) changes something"),
+            _ => assert!(
+                same_but_answer(&before, &lent),
+                "turn {turn}: call {number} refused ({no}) changes something"
+            ),
         }
     }
     println!("answers 0 to 13: {answers:?}");

@@ -1,8 +1,5 @@
 //! Document 01's "Readings from the bench", W1 to W10, through the typed interface.
-use thnaolups::{
-    Direction::In, Place, Refusal, Request, Ring, Stored, Tables, Words, MOST_SLOTS, PACKETS_SIZE,
-    RECORDS_SIZE, SLOT_WORDS,
-};
+use thnaolups::{Direction::In, Place, Refusal, Request, Ring, Stored, Tables, Words, MOST_SLOTS, PACKETS_SIZE, RECORDS_SIZE, SLOT_WORDS};
 
 /// Tables for the largest ring.
 struct Desk {

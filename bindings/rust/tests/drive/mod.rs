@@ -3,8 +3,8 @@
 use std::fmt::Write;
 
 use thnaolups::{
-    Answer, Completion, Direction, Place, Refusal, Request, Resetting, Ring, Stored, Tables, Words,
-    PACKETS_SIZE, RECORDS_SIZE, SLOT_WORDS, STATE_WORDS,
+    Answer, Completion, Direction, Place, Refusal, Request, Resetting, Ring, Stored, Tables, Words, PACKETS_SIZE, RECORDS_SIZE, SLOT_WORDS,
+    STATE_WORDS,
 };
 
 /// A line that is `bad`.
@@ -42,11 +42,7 @@ impl<'a> Fields<'a> {
     }
 
     fn direction(&mut self) -> Result<Direction, Bad> {
-        Ok(if self.decimal(1)? == 1 {
-            Direction::In
-        } else {
-            Direction::Out
-        })
+        Ok(if self.decimal(1)? == 1 { Direction::In } else { Direction::Out })
     }
 
     fn end(&mut self) -> Result<(), Bad> {
