@@ -43,11 +43,11 @@ pub request-size : (w : List ℕ) → isRequest w ≡ true → length w ≡ requ
 unfolding isRequest
 request-size w t = eqb-true _ _ (and-eq-true-iff (eqb (length w) requestWords) _ .0 t .0)
 
--- After an answer that changes the endpoint the words say the endpoint afterwards; after any other they say what they said.
-pub kept-says : (number : ℕ) (w : List ℕ) (e : Endpoint) → Narrow e → load (kept number w e) ≡ pick (moves number) e (load w)
+-- The words after an answer say the endpoint afterwards, where an answer that does not move them leaves the endpoint.
+pub kept-says : (number : ℕ) (w : List ℕ) (e : Endpoint) → Narrow e → (moves number ≡ false → e ≡ load w) → load (kept number w e) ≡ e
 unfolding kept
-kept-says number w e n = by (moves number)
+kept-says number w e n left = by (moves number) left
   where
-    by : (b : Bool) → load (pick b (save e) w) ≡ pick b e (load w)
-    by true = load-save e n
-    by false = refl
+    by : (b : Bool) → (b ≡ false → e ≡ load w) → load (pick b (save e) w) ≡ e
+    by true same = load-save e n
+    by false same = sym (same refl)
