@@ -1,0 +1,2 @@
+-- The laws of the exported calls.
+pub mod SaysLaws

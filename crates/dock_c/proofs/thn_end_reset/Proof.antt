@@ -1,0 +1,26 @@
+-- `thn_end_reset` meets its contract: the lengths, the call of its name on the loaded endpoint, and what it leaves. Assumes nothing.
+use borrow.Author.Tests.{eq-eqb, ne-eqb}
+use Rattle.dock_c.specs.Exported.{resetEnded}
+use borrow.Author.Needs.{needs}
+use Rattle.dock_c.proofs.thn_end_reset.Statement.{statement}
+use Rattle.dock_c.proofs.thn_end_reset.Tie as tie
+
+returns : tie.Need-returns
+unfolding resetEnded
+returns c =
+    simp (ne-eqb _ _ (c .if1 .taken))
+
+returns-2 : tie.Need-returns-2
+unfolding resetEnded
+returns-2 c =
+    simp (
+      eq-eqb _ _ (c .before .before .before .before .before .before .before .if1 .left),
+      ← c .before .before .before .before .before .load .ensures,
+      ← c .before .before .before .before .end-reset .ensures,
+      ← c .before .before .settle .ensures,
+    )
+
+pub thn-end-reset-spec : {M : Type 1} → statement M
+thn-end-reset-spec =
+    tie.close
+    (tie.spec returns (λ c κs. search needs) (λ c κs. search needs) (λ c κs. search needs) (λ c. search needs) returns-2)

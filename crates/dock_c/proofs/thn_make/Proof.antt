@@ -1,0 +1,34 @@
+-- `thn_make` meets its contract: the lengths, the call of its name on the loaded endpoint, and what it leaves. Assumes nothing.
+use borrow.Author.Tests.{eq-eqb, ne-eqb}
+use Rattle.dock_c.specs.Exported.{made}
+use borrow.Author.Needs.{needs}
+use Rattle.dock_c.proofs.thn_make.Statement.{statement}
+use Rattle.dock_c.proofs.thn_make.Tie as tie
+
+returns : tie.Need-returns
+unfolding made
+returns c =
+    simp (ne-eqb _ _ (c .if1 .taken))
+
+returns-2 : tie.Need-returns-2
+unfolding made
+returns-2 c =
+    simp (
+      eq-eqb _ _ (c .before .before .before .before .before .before .before .before .before .before .before .before .before .before .before .before .before .if1 .left),
+      ← c .before .before .before .before .before .before .before .before .before .before .before .before .make .ensures,
+      ← c .before .before .settle .ensures,
+    )
+
+pub thn-make-spec : {M : Type 1} → statement M
+thn-make-spec =
+    tie.close
+    (tie.spec
+    returns
+    (λ c κs. search needs)
+    (λ c κs. search needs)
+    (λ c. search needs)
+    (λ c. search needs)
+    (λ c. search needs)
+    (λ c. search needs)
+    (λ c. search needs)
+    returns-2)

@@ -1,0 +1,49 @@
+-- `thn_start` meets its contract: the lengths, the call of its name on the loaded endpoint, and what it leaves. Assumes nothing.
+use borrow.Author.Tests.{eq-eqb, ne-eqb}
+use Rattle.base.proofs.Decide.{passed, failed}
+use Rattle.saved.proofs.SavedLaws.{request-size}
+use Rattle.dock_c.specs.Exported.{started}
+use borrow.Author.Needs.{needs}
+use Rattle.dock_c.proofs.thn_start.Statement.{statement}
+use Rattle.dock_c.proofs.thn_start.Tie as tie
+
+returns : tie.Need-returns
+unfolding started
+returns c =
+    simp (ne-eqb _ _ (c .if1 .taken))
+
+returns-2 : tie.Need-returns-2
+unfolding started
+returns-2 c =
+    simp (eq-eqb _ _ (c .before .before .if1 .left), failed (c .before .is-request .ensures) (c .if2 .taken))
+
+request-of-requires : tie.Need-request-of-requires
+request-of-requires c κs = request-size _ (passed (c .before .before .before .before .before .is-request .ensures) (c .before .before .before .before .if2 .left))
+
+returns-3 : tie.Need-returns-3
+unfolding started
+returns-3 c =
+    simp (
+      eq-eqb _ _ (c .before .before .before .before .before .before .before .before .before .before .before .before .before .before .before .before .if1 .left),
+      passed (c .before .before .before .before .before .before .before .before .before .before .before .before .before .before .before .is-request .ensures) (c .before .before .before .before .before .before .before .before .before .before .before .before .before .before .if2 .left),
+      ← c .before .before .before .before .before .before .before .before .before .before .before .before .load .ensures,
+      ← c .before .before .before .before .before .before .before .before .before .request-of .ensures,
+      ← c .before .before .before .before .before .before .before .before .start-request .ensures,
+      ← c .before .before .settle .ensures,
+    )
+
+pub thn-start-spec : {M : Type 1} → statement M
+thn-start-spec =
+    tie.close
+    (tie.spec
+    returns
+    (λ c κs. search needs)
+    returns-2
+    (λ c κs. search needs)
+    request-of-requires
+    (λ c κs. search needs)
+    (λ c κs. search needs)
+    (λ c. search needs)
+    (λ c. search needs)
+    (λ c. search needs)
+    returns-3)

@@ -1,0 +1,68 @@
+-- `thn_submit` meets its contract: the lengths, the call of its name on the loaded endpoint, and what it leaves. Assumes nothing.
+use borrow.Author.Tests.{eq-eqb, ne-eqb}
+use Rattle.base.proofs.Decide.{passed, failed}
+use Rattle.saved.proofs.SavedLaws.{request-size}
+use Rattle.dock_c.specs.Exported.{submitted}
+use borrow.Author.Needs.{needs}
+use Rattle.dock_c.proofs.thn_submit.Statement.{statement}
+use Rattle.dock_c.proofs.thn_submit.Tie as tie
+
+returns : tie.Need-returns
+unfolding submitted
+returns c =
+    simp (ne-eqb _ _ (c .if1 .taken))
+
+returns-2 : tie.Need-returns-2
+unfolding submitted
+returns-2 c =
+    simp (eq-eqb _ _ (c .before .if1 .left), ne-eqb _ _ (c .if2 .taken))
+
+returns-3 : tie.Need-returns-3
+unfolding submitted
+returns-3 c =
+    simp (
+      eq-eqb _ _ (c .before .before .before .if1 .left),
+      eq-eqb _ _ (c .before .before .if2 .left),
+      failed (c .before .is-request .ensures) (c .if3 .taken),
+    )
+
+request-of-requires : tie.Need-request-of-requires
+request-of-requires c κs = request-size _ (passed (c .before .before .before .before .before .before .before .is-request .ensures) (c .before .before .before .before .before .before .if3 .left))
+
+settle-told-requires : tie.Need-settle-told-requires
+settle-told-requires c κs = (c .before .before .before .before .before .before .before .before .before .before .before .before .before .before .before .before .before .before .before .before .before .before .before .if1 .left, c .before .before .before .before .before .before .before .before .before .before .before .before .before .before .before .before .before .before .before .before .before .before .if2 .left)
+
+returns-4 : tie.Need-returns-4
+unfolding submitted
+returns-4 c =
+    simp (
+      eq-eqb _ _ (c .before .before .before .before .before .before .before .before .before .before .before .before .before .before .before .before .before .before .before .before .before .before .before .before .before .before .before .before .if1 .left),
+      eq-eqb _ _ (c .before .before .before .before .before .before .before .before .before .before .before .before .before .before .before .before .before .before .before .before .before .before .before .before .before .before .before .if2 .left),
+      passed (c .before .before .before .before .before .before .before .before .before .before .before .before .before .before .before .before .before .before .before .before .before .before .before .before .before .before .is-request .ensures) (c .before .before .before .before .before .before .before .before .before .before .before .before .before .before .before .before .before .before .before .before .before .before .before .before .before .if3 .left),
+      ← c .before .before .before .before .before .before .before .before .before .before .before .before .before .before .before .before .before .before .before .before .before .before .before .load .ensures,
+      ← c .before .before .before .before .before .before .before .before .before .before .before .before .before .before .before .before .before .before .request-of .ensures,
+      ← c .before .before .before .before .before .before .before .before .before .before .before .before .before .before .before .before .before .submit-request .ensures,
+      ← c .before .before .before .before .before .submitted .ensures,
+      ← c .before .before .before .before .settle-told .ensures,
+    )
+
+pub thn-submit-spec : {M : Type 1} → statement M
+thn-submit-spec =
+    tie.close
+    (tie.spec
+    returns
+    returns-2
+    (λ c κs. search needs)
+    returns-3
+    (λ c κs. search needs)
+    request-of-requires
+    (λ c κs. search needs)
+    (λ c κs. search needs)
+    settle-told-requires
+    (λ c. search needs)
+    (λ c. search needs)
+    (λ c. search needs)
+    (λ c. search needs)
+    (λ c. search needs)
+    (λ c. search needs)
+    returns-4)

@@ -1,0 +1,2 @@
+-- The exported calls.
+pub mod Exported

@@ -1,0 +1,12 @@
+-- `settle` meets its contract: the number, and the words that go with it. Assumes nothing.
+use Rattle.saved.specs.Settle.{numbered}
+use borrow.Author.Needs.{needs}
+use Rattle.saved.proofs.settle.settle.Statement.{statement}
+use Rattle.saved.proofs.settle.settle.Tie as tie
+
+returns : tie.Need-returns
+unfolding numbered
+returns c = simp (c .before .before .keep .ensures, c .before .before .before .before .outcome .ensures)
+
+pub settle-spec : {M : Type 1} → statement M
+settle-spec = tie.close (tie.spec (λ c κs. search needs) (λ c κs. search needs) (λ c. search needs) returns)

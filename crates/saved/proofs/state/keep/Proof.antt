@@ -1,0 +1,17 @@
+-- `keep` meets its contract: one test. Assumes nothing.
+use mathlib.Core.Path.{sym, _∙_}
+use Rattle.saved.specs.State.{kept}
+use borrow.Author.Needs.{needs}
+use Rattle.saved.proofs.state.keep.Statement.{statement}
+use Rattle.saved.proofs.state.keep.Tie as tie
+
+returns : tie.Need-returns
+unfolding kept
+returns c = simp (sym (c .before .before .before .before .before .moves .ensures) ∙ c .before .before .before .before .if1 .taken, c .before .before .save .ensures)
+
+returns-2 : tie.Need-returns-2
+unfolding kept
+returns-2 c = simp (sym (c .before .moves .ensures) ∙ c .if1 .left)
+
+pub keep-spec : {M : Type 1} → statement M
+keep-spec = tie.close (tie.spec (λ c κs. search needs) (λ c κs. search needs) (λ c. search needs) returns returns-2)

@@ -1,0 +1,23 @@
+-- `round_trip` meets its contract: the fields of an endpoint are as narrow as their types, so that it is loaded as it was saved. Assumes nothing.
+use mathlib.Core.Path.{ap, _∙_}
+use Rattle.saved.specs.State.{load}
+use Rattle.saved.proofs.SavedLaws.{load-save}
+use borrow.Author.Needs.{needs}
+use Rattle.saved.proofs.state.round_trip.Statement.{statement}
+use Rattle.saved.proofs.state.round_trip.Tie as tie
+
+returns : tie.Need-returns
+returns c =
+    let n = c .before .before .before .before .before in
+    c .load .ensures ∙ ap load (c .before .before .before .save .ensures) ∙ load-save (n .before .args .e) (n .narrow .ensures)
+
+pub round-trip-spec : {M : Type 1} → statement M
+round-trip-spec =
+    tie.close
+    (tie.spec
+    (λ c κs. search needs)
+    (λ c. search needs)
+    (λ c κs. search needs)
+    (λ c. search needs)
+    (λ c κs. search needs)
+    returns)
