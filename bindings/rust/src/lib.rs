@@ -31,9 +31,11 @@
 //! stores, or at least before the last one, which publishes a control transfer; one that submits whole ([`Ring::submit`]) puts it before the
 //! doorbell.
 #![no_std]
-#![warn(missing_docs)]
+#![deny(missing_docs, unsafe_code)]
 
+#[allow(unsafe_code)]
 pub mod calls;
+#[allow(unsafe_code)]
 mod raw;
 
 use core::fmt;

@@ -4,8 +4,10 @@ use Prim.Native.Nat.{ℕ}
 use mathlib.Core.Bool.{Bool, true, _&&_}
 use mathlib.Core.List.{List}
 use mathlib.Core.Path.{_≡_}
+use lib.ListN.{length}
 use Rattle.table.specs.Records.{isSet}
 use Rattle.dock.specs.Configure.{configure}
+use Rattle.dock.specs.Make.{makeNo, make}
 use Rattle.dock.specs.Reclaim.{reclaim}
 use Rattle.dock.specs.Reset.{beginReset, endReset}
 use Rattle.dock.specs.Retire.{retire}
@@ -15,13 +17,23 @@ use Rattle.dock.specs.Submit.{submit}
 use Rattle.saved.specs.State.{Narrow, load}
 use Rattle.saved.specs.Request.{isRequest, requestOf}
 use Rattle.saved.specs.Settle.{numbered, told}
-use Rattle.saved.proofs.LeavesLaws.{configure-leaves, start-leaves, store-leaves, submit-leaves, reclaim-leaves, retire-leaves, begin-leaves, end-leaves}
+use Rattle.saved.proofs.LeavesLaws.{make-moves, configure-leaves, start-leaves, store-leaves, submit-leaves, reclaim-leaves, retire-leaves, begin-leaves, end-leaves}
 use Rattle.saved.proofs.SavedLaws.{kept-says}
-use Rattle.dock_c.specs.Exported.{isState, areWords, configured, started, storedOne, submitted, reclaimed, retired, resetBegun, resetEnded}
+use Rattle.dock_c.specs.Exported.{isState, areWords, made, configured, started, storedOne, submitted, reclaimed, retired, resetBegun, resetEnded}
 
 -- ---- calls that tell their number only
 
 module _ (state : List ℕ) (fit : isState state ≡ true) where
+  -- A making that is refused leaves the words, whatever they say; else they say the fresh endpoint.
+  pub make-says : (ring finished records packets : List ℕ) (slots base mask slot dci : ℕ)
+      → makeNo (length ring) (length finished) (length records) (length packets) slots base slot dci ≡ 0
+      → Narrow (make ring finished records packets slots base mask slot dci .0 .endpoint)
+      → load (made state ring finished records packets slots base mask slot dci .1)
+      ≡ make ring finished records packets slots base mask slot dci .0 .endpoint
+  unfolding made numbered
+  make-says ring finished records packets slots base mask slot dci z n =
+      rw fit (kept-says _ state _ n (λ m. absurd (make-moves ring finished records packets slots base mask slot dci z m)))
+
   pub configure-says : (packet burst interval : ℕ) → Narrow (configure (load state) packet burst interval .endpoint)
       → load (configured state packet burst interval .1) ≡ configure (load state) packet burst interval .endpoint
   unfolding configured numbered

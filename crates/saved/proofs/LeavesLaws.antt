@@ -21,6 +21,7 @@ use Rattle.dock.specs.declared.Submitted.{Submitted}
 use Rattle.dock.specs.Configure.{plainNo, configure}
 use Rattle.dock.specs.Fit.{Next, nextOf, isNone}
 use Rattle.dock.specs.Limits.{ringSize}
+use Rattle.dock.specs.Make.{makeNo, make}
 use Rattle.dock.specs.Numbers.{outcomeNumber, storedNumber, submittedNumber, resettingNumber}
 use Rattle.dock.specs.Reclaim.{reclaim}
 use Rattle.dock.specs.Reset.{beginNo, beginReset, endNo, endReset}
@@ -30,7 +31,7 @@ use Rattle.dock.specs.Store.{storeNo, store, storedAnswer, slotStored}
 use Rattle.dock.specs.Submit.{submit}
 use Rattle.dock.proofs.FinishLaws.{submit-done}
 use Rattle.dock.proofs.NothingLaws.{reclaim-refused, reclaim-nothing}
-use Rattle.dock.proofs.RefusalLaws.{configure-refuses, configure-acts, end-refuses, end-acts, start-refuses, start-acts, store-refuses, store-acts, submit-misfits, submit-refuses, retire-refuses, retire-acts, begin-refuses, begin-clear, begin-acts}
+use Rattle.dock.proofs.RefusalLaws.{make-acts, configure-refuses, configure-acts, end-refuses, end-acts, start-refuses, start-acts, store-refuses, store-acts, submit-misfits, submit-refuses, retire-refuses, retire-acts, begin-refuses, begin-clear, begin-acts}
 use Rattle.saved.specs.State.{moves}
 use Rattle.saved.specs.Answer.{reclaimedTold}
 
@@ -58,6 +59,13 @@ nine-moves = refl
 left : {P : Type 0} (test number : ℕ) → (test ≡ 0 → number ≡ 0) → ((test ≡ 0 → ⊥) → P) → moves number ≡ false → P
 left {P} test number done refused m =
     ⊎-elim (λ (z : test ≡ 0). absurd (moved 0 zero-moves (done z) m)) (λ (n : test ≡ 0 → ⊥). refused n) (same-or-not test 0)
+
+-- A making that is not refused tells 0.
+pub make-moves : (ring finished records packets : List ℕ) (slots base mask slot dci : ℕ)
+    → makeNo (length ring) (length finished) (length records) (length packets) slots base slot dci ≡ 0
+    → moves (outcomeNumber (make ring finished records packets slots base mask slot dci .0 .answer) .0) ≡ false → ⊥
+make-moves ring finished records packets slots base mask slot dci z =
+    moved 0 zero-moves (ap (λ x. outcomeNumber (x .0 .answer) .0) (make-acts ring finished records packets slots base mask slot dci z))
 
 off-or-on : (b : Bool) → (b ≡ false) ⊎ (b ≡ true)
 off-or-on true = inr refl
