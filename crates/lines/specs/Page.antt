@@ -43,3 +43,7 @@ hexField least n = 9 ∷ hex least n
 
 unfoldable pub flagField : Bool → List ℕ
 flagField b = 9 ∷ pick b 49 48 ∷ []
+
+-- The end of a line.
+abbrev pub newline : List ℕ
+newline = 10 ∷ []

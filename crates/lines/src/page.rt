@@ -3,7 +3,7 @@ ghost use mathlib.Core.Path.{_≡_};
 ghost use mathlib.Core.List.{List};
 ghost use Prim.Native.Nat.{ℕ, _≤_, _<_};
 ghost use lib.ListN.{length, take, drop};
-ghost use Rattle.lines.specs.Page.{Page, put, putAll, decimalField, hexField, flagField};
+ghost use Rattle.lines.specs.Page.{put, putAll, decimalField, hexField, flagField, newline};
 
 // One byte.
 pub fn put(out: &mut [u8], at: usize, b: u8) -> usize
@@ -31,7 +31,7 @@ pub fn put_text(out: &mut [u8], at: usize, text: &[u8]) -> usize
 
 // A newline.
 pub fn put_end(out: &mut [u8], at: usize) -> usize
-    ensures { λ r. ⌜ (r, now (out .exit)) ≡ put (at, now (out .entry)) 10 ⌝ }
+    ensures { λ r. ⌜ (r, now (out .exit)) ≡ putAll (at, now (out .entry)) newline ⌝ }
 {
     put(out, at, 10)
 }
