@@ -6,12 +6,6 @@ use Rattle.marking.proofs.FitLaws.{by-fitting}
 use borrow.Author.Needs.{needs}
 use Rattle.marking.proofs.begin.Statement.{statement}
 use Rattle.marking.proofs.begin.Tie as tie
-use Rattle.marking.proofs.begin.Reads as reads
-use Rattle.marking.proofs.begin.Lts as lts
-use Rattle.marking.proofs.is_fitting.Reads as is-fitting-reads
-
-is-fitting-requires : tie.Need-is-fitting-requires
-is-fitting-requires c κs = search needs
 
 add-t5 : tie.Need-add-t5
 add-t5 c = let a = c .before .before .before .args in let f = by-fitting (a .packets) (a .finished) (a .b) .so (sym (c .before .before .is-fitting .ensures) ∙ c .before .if1 .taken) in omega arith
@@ -25,4 +19,4 @@ unfolding beginOf
 returns-2 c = simp (sym (c .before .is-fitting .ensures) ∙ c .if1 .left)
 
 pub begin-spec : {M : Type 1} → statement M
-begin-spec = tie.close (tie.spec is-fitting-requires add-t5 returns returns-2)
+begin-spec = tie.close (tie.spec (λ c κs. search needs) add-t5 returns returns-2)

@@ -4,15 +4,6 @@ use Rattle.marking.specs.Marking.{creditOf}
 use borrow.Author.Needs.{needs}
 use Rattle.marking.proofs.credit.Statement.{statement}
 use Rattle.marking.proofs.credit.Tie as tie
-use Rattle.marking.proofs.credit.Reads as reads
-use Rattle.marking.proofs.credit.Lts as lts
-use Rattle.marking.proofs.pass.Reads as pass-reads
-
-add-if1 : tie.Need-add-if1
-add-if1 c = search needs
-
-pass-requires : tie.Need-pass-requires
-pass-requires c κs = search needs
 
 returns : tie.Need-returns
 unfolding creditOf
@@ -23,4 +14,4 @@ unfolding creditOf
 returns-2 c = simp (eq-eqb _ _ (c .if1 .left))
 
 pub credit-spec : {M : Type 1} → statement M
-credit-spec = tie.close (tie.spec add-if1 pass-requires returns returns-2)
+credit-spec = tie.close (tie.spec (λ c. search needs) (λ c κs. search needs) returns returns-2)

@@ -12,14 +12,8 @@ returns c = let a = c .before .before .args in fails (by-fitting (a .packets) (a
 returns-2 : tie.Need-returns-2
 returns-2 c = let a = c .before .before .before .before .args in fails (by-fitting (a .packets) (a .finished) (a .b)) (λ f. omega arith)
 
-add-if3 : tie.Need-add-if3
-add-if3 c = search needs
-
 returns-3 : tie.Need-returns-3
 returns-3 c = let a = c .before .before .before .before .before .before .before .args in fails (by-fitting (a .packets) (a .finished) (a .b)) (λ f. omega arith)
-
-mul-if4 : tie.Need-mul-if4
-mul-if4 c = search needs
 
 returns-4 : tie.Need-returns-4
 returns-4 c = let a = c .before .before .before .before .before .before .before .before .before .args in fails (by-fitting (a .packets) (a .finished) (a .b)) (λ f. omega arith)
@@ -38,4 +32,4 @@ returns-7 c =
 pub is-fitting-spec : {M : Type 1} → statement M
 is-fitting-spec =
     tie.close
-    (tie.spec returns returns-2 add-if3 returns-3 mul-if4 returns-4 returns-5 returns-6 returns-7)
+    (tie.spec returns returns-2 (λ c. search needs) returns-3 (λ c. search needs) returns-4 returns-5 returns-6 returns-7)

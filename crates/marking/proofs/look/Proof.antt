@@ -11,36 +11,6 @@ use Rattle.marking.proofs.TurnLaws.{seen-refused, seen-bytes}
 use borrow.Author.Needs.{needs}
 use Rattle.marking.proofs.look.Statement.{statement}
 use Rattle.marking.proofs.look.Tie as tie
-use Rattle.marking.proofs.look.Reads as reads
-use Rattle.marking.proofs.look.Lts as lts
-use Rattle.marking.proofs.credit.Reads as credit-reads
-use Rattle.marking.proofs.pass.Reads as pass-reads
-use Rattle.trb.proofs.event_of.Reads as event-of-reads
-use Rattle.worth.proofs.value.value_of.Reads as value-of-reads
-
-enum-told : tie.Need-enum-told
-enum-told c = search needs
-
-pass-requires : tie.Need-pass-requires
-pass-requires c κs = search needs
-
-enum-known-f : tie.Need-enum-known-f
-enum-known-f c = search needs
-
-event-of-requires : tie.Need-event-of-requires
-event-of-requires c κs = search needs
-
-value-of-requires : tie.Need-value-of-requires
-value-of-requires c κs = search needs
-
-enum-known-value : tie.Need-enum-known-value
-enum-known-value c = search needs
-
-credit-requires : tie.Need-credit-requires
-credit-requires c κs = search needs
-
-enum-told-2 : tie.Need-enum-told-2
-enum-told-2 c = search needs
 
 -- What the event at the packet's place is worth.
 valued : (c : tie.After-value-of)
@@ -77,14 +47,14 @@ pub look-spec : {M : Type 1} → statement M
 look-spec =
     tie.close
     (tie.spec
-    enum-told
-    pass-requires
-    enum-known-f
-    event-of-requires
-    value-of-requires
-    enum-known-value
-    credit-requires
-    enum-told-2
+    (λ c. search needs)
+    (λ c κs. search needs)
+    (λ c. search needs)
+    (λ c κs. search needs)
+    (λ c κs. search needs)
+    (λ c. search needs)
+    (λ c κs. search needs)
+    (λ c. search needs)
     returns
     returns-2
     returns-3)
