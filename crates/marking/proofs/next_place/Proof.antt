@@ -1,8 +1,8 @@
--- `walk::next_place` meets its contract, by its test. Assumes nothing.
+-- `marking::next_place` meets its contract, by its test. Assumes nothing.
 use borrow.Author.Needs.{needs}
 use borrow.Author.Tests.{eq-eqb, ne-eqb}
-use Rattle.walk.proofs.next_place.Statement.{statement}
-use Rattle.walk.proofs.next_place.Tie as tie
+use Rattle.marking.proofs.next_place.Statement.{statement}
+use Rattle.marking.proofs.next_place.Tie as tie
 
 returns : tie.Need-returns
 returns c = simp (eq-eqb _ _ (c .if1 .taken))

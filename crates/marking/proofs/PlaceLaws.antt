@@ -1,5 +1,4 @@
--- The places of a request's TRBs: each is one of the slots 0 to L-2, the first is the record's own, and each next one is the place behind the
--- last. Assumes nothing.
+-- The places of a request's TRBs: each is one of the slots 0 to L-2, and each next one is the place behind the last. Assumes nothing.
 use Prim.Native.Nat.{ℕ, _+_, _-_, _%_, _<_}
 use mathlib.Core.Logic.{⊎-elim}
 use mathlib.Core.Path.{_≡_, sym, ap, _∙_}
@@ -8,14 +7,9 @@ use native.Mathlib.Omega.{arith}
 use borrow.Author.Tests.{eq-eqb, ne-eqb}
 use Rattle.base.proofs.Compare.{same-or-not}
 use Rattle.dock.specs.Reclaim.{placeOf}
-use Rattle.walk.specs.Turns.{behind}
+use Rattle.marking.specs.Marking.{behind}
 
 module _ (slots place : ℕ) (fits : place + 1 < slots) where
-  -- The first place is the record's.
-  pub place-first : placeOf slots place 0 ≡ place
-  unfolding placeOf
-  place-first = let none : place + 0 ≡ place = omega arith in rw none (mod-eq-of-lt (omega arith))
-
   -- Every place is one of the slots 0 to L-2.
   pub place-below : (k : ℕ) → placeOf slots place k + 1 < slots
   unfolding placeOf
