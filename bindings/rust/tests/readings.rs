@@ -80,6 +80,30 @@ fn w1_a_full_ring_of_4096() {
     assert_eq!(ring.submit(&bulk(0x2_0000, 64)), Err(Refusal::QueueFull));
 }
 
+/// The same by a start and its stores: as many TRBs as packets, and the ring as the whole submission leaves it.
+#[test]
+fn w1_store_by_store() {
+    let (mut one, mut other) = (Desk::new(), Desk::new());
+    let (mut ring, mut whole) = (one.ring(4096), other.ring(4096));
+    for _ in 0..3 {
+        let bell = whole.submit(&iso(&[7; 64])).unwrap();
+        ring.start(&iso(&[7; 64])).unwrap();
+        let mut stores = 1;
+        let last = loop {
+            match ring.store().unwrap() {
+                Stored::Slot(_) => stores += 1,
+                Stored::Last(_, bell) => break bell,
+            }
+        };
+        assert_eq!((stores, last), (64, bell));
+    }
+    let (state, tables) = ring.into_parts();
+    let (want, all) = whole.into_parts();
+    assert_eq!(state, want);
+    assert_eq!((tables.ring, tables.finished), (all.ring, all.finished));
+    assert_eq!((tables.records, tables.packets), (all.records, all.packets));
+}
+
 #[test]
 fn w2_room_for_one() {
     let mut desk = Desk::new();
@@ -170,7 +194,8 @@ fn w10_a_control_transfer_across_the_wrap() {
         ring.hand_over(event(slot, 1, 0)).unwrap();
         assert_eq!(ring.reclaim(bell.id).unwrap().length, 64);
     }
-    assert_eq!(ring.pointer().unwrap().address, 0x1_0030);
+    let at = ring.pointer().unwrap();
+    assert_eq!((at.address, at.cycle), (0x1_0030, true));
     ring.start(&DESCRIPTOR).unwrap();
     assert_eq!(ring.pointer(), Err(Refusal::UnderWay));
     let mut stores = Vec::new();
@@ -227,8 +252,36 @@ fn cancel_stop_retire_and_reset() {
     assert_eq!(reset, [0, 0, 0, 0x0101_3800]);
     assert_eq!(dequeue, [0x1_0031, 0, 0, 0x0101_4000]);
     assert_eq!(ring.submit(&bulk(0x2_0000, 64)), Err(Refusal::QueueFull));
+    // the commands did not work: the endpoint is halted still
+    assert_eq!(ring.end_reset(false), Ok(()));
+    assert!(matches!(ring.begin_reset(), Ok(thnaolups::Resetting::Commands { .. })));
     assert_eq!(ring.end_reset(true), Ok(()));
+    assert_eq!(ring.begin_reset(), Ok(thnaolups::Resetting::Clear));
     assert!(ring.submit(&bulk(0x2_0000, 64)).is_ok());
+}
+
+/// Bytes that go out are moved, and none are received; the kind of a request stands in its record.
+#[test]
+fn kinds_and_directions() {
+    let mut desk = Desk::new();
+    let mut ring = desk.ring(16);
+    let interrupt = Request::Interrupt {
+        direction: thnaolups::Direction::Out,
+        address: 0x2_0000,
+        length: 8,
+    };
+    let bell = ring.submit(&interrupt).unwrap();
+    assert_eq!((ring.tables().records[0], ring.tables().records[1]), (bell.id, 2));
+    ring.hand_over(event(0, 1, 0)).unwrap();
+    let done = ring.reclaim(bell.id).unwrap();
+    assert_eq!((done.length, done.received), (8, false));
+    assert_eq!(ring.packets(&done).count(), 0);
+    for (request, kind) in [(DESCRIPTOR, 0), (bulk(0x2_0000, 64), 1), (interrupt, 2), (iso(&[8]), 3)] {
+        ring.submit(&request).unwrap();
+        assert_eq!(ring.tables().records[1], kind);
+        ring.retire().unwrap();
+        assert_eq!(ring.reclaim(bell.id + 1 + kind), Err(Refusal::Cancelled));
+    }
 }
 
 #[test]
