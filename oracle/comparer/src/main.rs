@@ -74,12 +74,8 @@ fn settings() -> Settings {
             "--random" => s.random = true,
             "--session" => s.session = true,
             "--without" => {
-                for name in next().split(',') {
-                    if name == "all" {
-                        s.exceptions = Exceptions::none();
-                    } else if !s.exceptions.without(name) {
-                        usage(&format!("no exception has the name {name}"));
-                    }
+                if let Err(name) = s.exceptions.switch(&next(), false) {
+                    usage(&format!("no exception has the name {name}"));
                 }
             }
             "--names" => {
@@ -281,8 +277,8 @@ fn main() {
             _ => break,
         }
     }
-    for ((_, name, _), used) in ALL.iter().zip(script.used()) {
-        if found.settings.exceptions.is_on(ALL.iter().find(|(_, other, _)| other == name).expect("a name").0) {
+    for ((exception, name, _), used) in ALL.iter().zip(script.used()) {
+        if found.settings.exceptions.is_on(*exception) {
             println!("exception {name} was at work {used} times");
         }
     }

@@ -1,7 +1,7 @@
-//! Runs `drive`'s format on the unchanged Rust: `drive [--session] [--without NAME,..] < in > out`.
+//! Runs `drive`'s format on the unchanged Rust: `drive [--session] [--without NAME,..] [--with NAME,..] < in > out`.
 //!
 //! `--session`: only the words of document 01's session. `--without`: the exceptions of these names are off (`all`: every one), and the
-//! Rust's own rule shows.
+//! Rust's own rule shows. `--with`: they are on, as they are where nothing is said.
 use std::{
     env,
     io::{self, Read, Write},
@@ -17,14 +17,11 @@ fn main() -> io::Result<()> {
     while let Some(word) = words.next() {
         match word.as_str() {
             "--session" => session = true,
-            "--without" => {
-                for name in words.next().unwrap_or_default().split(',') {
-                    if name == "all" {
-                        exceptions = Exceptions::none();
-                    } else if !exceptions.without(name) {
-                        eprintln!("drive: no exception has the name {name}");
-                        exit(2);
-                    }
+            "--with" | "--without" => {
+                let names = words.next().unwrap_or_default();
+                if let Err(name) = exceptions.switch(&names, word == "--with") {
+                    eprintln!("drive: no exception has the name {name}");
+                    exit(2);
                 }
             }
             other => {
