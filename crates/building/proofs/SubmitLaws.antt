@@ -1,101 +1,149 @@
--- The whole submission, turn by turn: what a store answers decides what is left, and what the start answers decides the whole.
--- Assumes nothing.
-use Prim.Native.Nat.{ℕ, zero, suc, _+_, _-_, _≤_, _<_}
-use mathlib.Core.Bool.{Bool, true, false, _&&_}
+-- The whole submission: its refusals, and what an admitted one leaves. Assumes nothing.
+use Prim.Native.Nat.{ℕ, _<_, _≤_}
+use mathlib.Core.Bool.{Bool, true, false, _&&_, and-eq-true-iff, false≢true}
 use mathlib.Core.List.{List}
-use mathlib.Core.Path.{_≡_, refl, sym, ap, _∙_}
+use mathlib.Core.Logic.{⊎-elim}
+use mathlib.Core.Path.{_≡_, sym, ap, subst, _∙_}
 use native.Mathlib.Omega.{arith}
-use borrow.Author.Tests.{eqb-true}
+use borrow.Author.Tests.{eqb-true, eqb-false, eq-eqb, ne-eqb}
 use lib.Dec.{eqb}
 use lib.ListN.{length}
 use Rattle.base.specs.First.{pick}
-use Rattle.dock.specs.Limits.{ringSize}
-use Rattle.dock.specs.Start.{startNo, start}
-use Rattle.dock.specs.Store.{store}
-use Rattle.dock.specs.Submit.{afterStore, finish, mostStores, afterStart, submit}
-use Rattle.dock.specs.declared.Changed.{Changed}
+use Rattle.ids.specs.Free.{recordCount}
+use Rattle.ids.proofs.AnyLaws.{true-or-false}
+use Rattle.table.specs.Packets.{packetCount}
+use Rattle.table.specs.Records.{isoch}
+use Rattle.table.specs.declared.records.Record.{Record}
 use Rattle.dock.specs.declared.Endpoint.{Endpoint}
-use Rattle.dock.specs.declared.Outcome.{Outcome}
-use Rattle.dock.specs.declared.Outcome.the-variants.{Done, Refused}
 use Rattle.dock.specs.declared.Request.{Request}
-use Rattle.dock.specs.declared.Stored.{Stored}
-use Rattle.dock.specs.declared.StoredOne.{StoredOne}
+use Rattle.dock.specs.declared.Request.the-variants.{Control, Bulk, Interrupt, Isoch}
 use Rattle.dock.specs.declared.StoredAll.{StoredAll}
 use Rattle.dock.specs.declared.Submitted.the-variants as submitted
+use Rattle.dock.specs.Limits.{ringSize, recordsSize}
+use Rattle.dock.specs.Requests.{recordFor}
+use Rattle.dock.specs.Start.{startNo, tooLong, idTaken, recordTaken, startedEndpoint, startedRecords}
+use Rattle.dock.specs.Submit.{submit, finish, mostStores}
+use Rattle.dock.proofs.RefusalLaws.{submit-acts, submit-refuses, submit-misfits}
+use Rattle.dock.proofs.AskedLaws.{few-packets}
+use Rattle.dock.proofs.StartLaws.{start-admitted, record-below}
+use Rattle.dock.proofs.StartedLaws.{place-low}
 use Rattle.starting.specs.Admitted.{Admitted}
-use Rattle.starting.proofs.StartLaws.{admitted}
+use Rattle.starting.specs.Counts.{requiredBy, takenWith}
+use Rattle.starting.specs.declared.act.Begun.{Begun}
+use Rattle.starting.proofs.StartLaws.{admitted, taken-is}
+use Rattle.sending.specs.Sent.{sentBy, Sendable}
+use Rattle.sending.proofs.SentLaws.{sent-is}
+use Rattle.building.specs.Numbers.{submitNo}
 
--- ---- the stores
+abbrev Sent : Type 0
+Sent = StoredAll × List ℕ × List ℕ × List ℕ
 
-module _ (records packets : List ℕ) where
-  abbrev rest : ℕ → Endpoint → List ℕ → List ℕ → StoredAll × List ℕ × List ℕ
-  rest n e ring finished = finish n e ring finished records packets
+abbrev Left : Type 0
+Left = StoredAll × List ℕ × List ℕ × List ℕ × List ℕ
 
-  -- What follows the next store.
-  abbrev following : ℕ → StoredOne × List ℕ × List ℕ → StoredAll × List ℕ × List ℕ
-  following n s = afterStore (s .0 .answer) (s .0 .endpoint) (s .1) (s .2) (rest n)
+-- Only an ISO request's lengths are walked.
+few : (request : Request) (lengths : List ℕ) (id place : ℕ) → tooLong request lengths ≡ false → recordFor request lengths id place .kind ≡ isoch → length lengths ≤ packetCount
+few (Control kind request value index address size) lengths id place short k = absurd (omega arith)
+few (Bulk incoming address size) lengths id place short k = absurd (omega arith)
+few (Interrupt incoming address size) lengths id place short k = absurd (omega arith)
+few (Isoch incoming address size) lengths id place short k = few-packets incoming address size lengths short
 
-  step : (n : ℕ) (e : Endpoint) (ring finished : List ℕ) → 0 < n
-      → finish n e ring finished records packets ≡ following (n - 1) (store e ring finished records packets)
-  unfolding finish
-  step zero e ring finished h = absurd (omega arith)
-  step (suc n) e ring finished h =
-      let same : n ≡ suc n - 1 = omega arith in
-      ap (λ (k : ℕ). following k (store e ring finished records packets)) same
+module _ (e : Endpoint) (ring finished records packets : List ℕ) (request : Request) (lengths : List ℕ) where
+  abbrev number : ℕ
+  number = submitNo e (length ring) (length finished) records (length packets) request lengths
 
-  -- A store that answered a: what was left is what follows it.
-  pub turned : (n : ℕ) (e : Endpoint) (ring finished : List ℕ) {s : StoredOne} {a : Stored} {ring′ finished′ : List ℕ} → 0 < n
-      → _≡_ {A = StoredOne × List ℕ × List ℕ} (s, ring′, finished′) (store e ring finished records packets) → s .answer ≡ a
-      → finish n e ring finished records packets ≡ afterStore a (s .endpoint) ring′ finished′ (rest (n - 1))
-  turned n e ring finished {s} {a} {ring′} {finished′} h ensures d =
-      step n e ring finished h
-      ∙ ap (following (n - 1)) (sym ensures)
-      ∙ ap (λ (x : Stored). afterStore x (s .endpoint) ring′ finished′ (rest (n - 1))) d
+  abbrev fit : Bool
+  fit = eqb (length ring) (ringSize (e .shape .slots)) && eqb (length finished) (ringSize (e .shape .slots))
 
-  -- With none left.
-  pub ended : (e : Endpoint) (ring finished : List ℕ)
-      → _≡_ {A = StoredAll × List ℕ × List ℕ} (record { answer = submitted.Refused 1; endpoint = e }, ring, finished) (finish 0 e ring finished records packets)
-  unfolding finish
-  ended e ring finished = refl
+  as-start : fit ≡ true → number ≡ startNo e records (length packets) request lengths
+  unfolding submitNo
+  as-start t = rw t
 
--- ---- the start
+  as-one : fit ≡ false → number ≡ 1
+  unfolding submitNo
+  as-one t = rw t
 
-chosen : (b : Bool) (x y : Changed × List ℕ × List ℕ) (k : ℕ) → y .0 .answer ≡ Refused k → pick b x y .0 .answer ≡ Done → b ≡ true
-chosen true x y k r d = refl
-chosen false x y k r d = let z : _≡_ {A = ℕ} 0 1 = cc in absurd (omega arith)
+  abbrev refusedWith : ℕ → Left
+  refusedWith n = (record { answer = submitted.Refused n; endpoint = e }, ring, finished, records, packets)
 
-module _ (e : Endpoint) (records packets : List ℕ) (request : Request) (lengths : List ℕ) where
-  passed : start e records packets request lengths .0 .answer ≡ Done → startNo e records (length packets) request lengths ≡ 0
-  unfolding start
-  passed d = eqb-true _ _ (chosen (eqb (startNo e records (length packets) request lengths) 0) _ _ _ refl d)
+  -- A number that is not 0 is the answer, and leaves everything.
+  pub refused : (number ≡ 0 → ⊥) → refusedWith number ≡ submit e ring finished records packets request lengths
+  refused n =
+      ⊎-elim
+      (λ (t : fit ≡ true).
+      ap refusedWith (as-start t) ∙ sym (submit-refuses e ring finished records packets request lengths t (λ z. n (as-start t ∙ z))))
+      (λ (t : fit ≡ false). ap refusedWith (as-one t) ∙ sym (submit-misfits e ring finished records packets request lengths t))
+      (true-or-false fit)
 
-  -- A start that is done was admitted.
-  pub was-admitted : {s : Changed} {records′ packets′ : List ℕ}
-      → _≡_ {A = Changed × List ℕ × List ℕ} (s, records′, packets′) (start e records packets request lengths) → s .answer ≡ Done
-      → Admitted e (length records) (length packets) request (length lengths)
-  was-admitted ensures d =
-      admitted e records (length packets) request lengths
-      (passed (sym (ap (λ (x : Changed × List ℕ × List ℕ). x .0 .answer) ensures) ∙ d))
+  -- Where it is 0 the sizes are right and the start is admitted.
+  pub fits : number ≡ 0 → fit ≡ true
+  fits z =
+      ⊎-elim (λ (t : fit ≡ true). t) (λ (t : fit ≡ false). let o = as-one t in absurd (omega arith)) (true-or-false fit)
 
-  module _ (ring finished : List ℕ) where
-    abbrev sizes : Bool
-    sizes = eqb (length ring) (ringSize (e .shape .slots)) && eqb (length finished) (ringSize (e .shape .slots))
+  module _ (z : number ≡ 0) where
+    passed : startNo e records (length packets) request lengths ≡ 0
+    passed = sym (as-start (fits z)) ∙ z
 
-    -- A table of a wrong size: 1.
-    pub unsized : sizes ≡ false
-        → _≡_ {A = StoredAll × List ℕ × List ℕ × List ℕ × List ℕ}
-        (record { answer = submitted.Refused 1; endpoint = e }, ring, finished, records, packets)
-        (submit e ring finished records packets request lengths)
-    unfolding submit
-    unsized t = simp t
+    both : (eqb (length ring) (ringSize (e .shape .slots)) ≡ true) × (eqb (length finished) (ringSize (e .shape .slots)) ≡ true)
+    both = and-eq-true-iff (eqb (length ring) (ringSize (e .shape .slots))) (eqb (length finished) (ringSize (e .shape .slots))) .0 (fits z)
 
-    -- A start that answered a: what follows it.
-    pub whole : {s : Changed} {a : Outcome} {records′ packets′ : List ℕ} → sizes ≡ true
-        → _≡_ {A = Changed × List ℕ × List ℕ} (s, records′, packets′) (start e records packets request lengths) → s .answer ≡ a
-        → afterStart a (s .endpoint) (mostStores request lengths) ring finished records′ packets′
-        ≡ submit e ring finished records packets request lengths
-    unfolding submit
-    whole {s} {a} {records′} {packets′} t ensures d =
-        simp t
-        (ap (λ (x : Outcome). afterStart x (s .endpoint) (mostStores request lengths) ring finished records′ packets′) (sym d)
-        ∙ ap (λ (x : Changed × List ℕ × List ℕ). afterStart (x .0 .answer) (x .0 .endpoint) (mostStores request lengths) ring finished (x .1) (x .2)) ensures)
+    ring-size : length ring ≡ ringSize (e .shape .slots)
+    ring-size = eqb-true _ _ (both .0)
+
+    finished-size : length finished ≡ ringSize (e .shape .slots)
+    finished-size = eqb-true _ _ (both .1)
+
+    pub takes : Admitted e (length records) (length packets) request (length lengths)
+    takes = admitted e records (length packets) request lengths passed
+
+    abbrev begunNow : Endpoint
+    begunNow = startedEndpoint e records request lengths
+
+    abbrev held : Record
+    held = recordFor request lengths (idTaken e records) (e .at .place)
+
+    now-sendable : Sendable begunNow (length ring) (length finished) (length packets)
+    unfolding startedEndpoint
+    now-sendable =
+        let s = start-admitted e records packets request lengths passed in
+        let limits = s .fits .endpoint .limits in
+        record {
+          slots = ring-size;
+          places = finished-size;
+          words = s .packets-size;
+          least = limits .slots-least;
+          most = limits .slots-most;
+          here = place-low e ring finished records packets request lengths passed ring-size finished-size;
+          number = record-below e records packets request lengths passed;
+        }
+
+    module _ {b : Begun} {records₁ : List ℕ} (taken : _≡_ {A = Begun × List ℕ} (b, records₁) (takenWith e records request (length lengths))) where
+      begun-is : b .endpoint ≡ begunNow
+      begun-is = ap (λ (x : Begun × List ℕ). x .0 .endpoint) (taken ∙ taken-is e records request lengths)
+
+      held-is : b .kept ≡ held
+      held-is = ap (λ (x : Begun × List ℕ). x .0 .kept) (taken ∙ taken-is e records request lengths)
+
+      written-is : records₁ ≡ startedRecords e records request lengths
+      written-is = ap (λ (x : Begun × List ℕ). x .1) (taken ∙ taken-is e records request lengths)
+
+      -- The stores have what they need,
+      pub sendable : Sendable (b .endpoint) (length ring) (length finished) (length packets) × (b .kept .kind ≡ isoch → length lengths ≤ packetCount)
+      sendable = (
+        subst (λ (x : Endpoint). Sendable x (length ring) (length finished) (length packets)) (sym begun-is) now-sendable,
+        λ k. few request lengths (idTaken e records) (e .at .place) (start-admitted e records packets request lengths passed .short) (sym (ap (λ (v : Record). v .kind) held-is) ∙ k),
+      )
+
+      abbrev withRecords : List ℕ → Sent → Left
+      withRecords l s = (s .0, s .1, s .2, l, s .3)
+
+      -- and leave what the whole submission leaves.
+      pub whole : {s : Sent} → s ≡ sentBy (b .endpoint) (b .kept) ring finished packets lengths
+          → withRecords records₁ s ≡ submit e ring finished records packets request lengths
+      whole {s} sent =
+          ap (withRecords records₁) sent
+          ∙ ap (λ (x : Endpoint). withRecords records₁ (sentBy x (b .kept) ring finished packets lengths)) begun-is
+          ∙ ap (λ (v : Record). withRecords records₁ (sentBy begunNow v ring finished packets lengths)) held-is
+          ∙ ap (λ (l : List ℕ). withRecords l (sentBy begunNow held ring finished packets lengths)) written-is
+          ∙ ap (withRecords (startedRecords e records request lengths)) (sym (sent-is e ring finished records packets request lengths passed ring-size finished-size))
+          ∙ sym (submit-acts e ring finished records packets request lengths (fits z) passed)

@@ -1,53 +1,33 @@
-// The whole submission: the start, and its stores in order.
+// The whole submission, proved equal to the start and its stores in order. Each table is touched once: the tests read, then the record is written, then
+// each packet's length is read, written to its record and stored in its TRB.
 ghost use mathlib.Core.Path.{_≡_};
-ghost use Rattle.dock.specs.Submit.{finish, submit};
-use crate::start::start_request;
-use crate::store::next_store;
+ghost use lib.ListN.{length};
+ghost use Rattle.dock.specs.Submit.{submit};
+ghost use Rattle.building.specs.Numbers.{submitNo};
 use dock::Endpoint;
-use dock::Outcome;
 use dock::Request;
-use dock::Stored;
 use dock::StoredAll;
 use dock::Submitted;
 
-// The stores that are left, in order, at most so many.
-fn finish(
-    most: usize,
+// The start is refused also where the ring or the finished table has a wrong size: then no store could follow.
+fn submit_no(
     e: Endpoint,
-    ring: &mut [u32],
-    finished: &mut [u32],
+    ring: usize,
+    finished: usize,
     records: &[u64],
-    packets: &[u64],
-) -> StoredAll
-    ensures { λ r. ⌜ (r, now (ring .exit), now (finished .exit)) ≡ finish most e (now (ring .entry)) (now (finished .entry)) (now (records .entry)) (now (packets .entry)) ⌝ }
+    packets: usize,
+    request: Request,
+    lengths: &[u64],
+) -> u32
+    ensures { λ r. ⌜ r ≡ submitNo e ring finished (now (records .entry)) packets request (now (lengths .entry)) ⌝ }
 {
-    let mut at = e;
-    let mut left = most;
-    while 0 < left {
-        let s = next_store(at, ring, finished, records, packets);
-        let answer = s.answer;
-        at = s.endpoint;
-        match answer {
-            Stored::Slot(_) => {}
-            Stored::Last { slot: _, id, bell } => {
-                return StoredAll {
-                    answer: Submitted::Done { id, bell },
-                    endpoint: at,
-                };
-            }
-            Stored::Refused(number) => {
-                return StoredAll {
-                    answer: Submitted::Refused(number),
-                    endpoint: at,
-                };
-            }
-        }
-        left -= 1;
+    if !checks::is_sized(ring, e.shape.slots) {
+        return 1;
     }
-    StoredAll {
-        answer: Submitted::Refused(1),
-        endpoint: at,
+    if !checks::is_sized(finished, e.shape.slots) {
+        return 1;
     }
+    starting::admission::start_no(e, records, packets, request, lengths)
 }
 
 pub fn submit_request(
@@ -61,29 +41,23 @@ pub fn submit_request(
 ) -> StoredAll
     ensures { λ r. ⌜ (r, now (ring .exit), now (finished .exit), now (records .exit), now (packets .exit)) ≡ submit e (now (ring .entry)) (now (finished .entry)) (now (records .entry)) (now (packets .entry)) request (now (lengths .entry)) ⌝ }
 {
-    if !checks::is_sized(ring.len(), e.shape.slots) {
+    let no = submit_no(
+        e,
+        ring.len(),
+        finished.len(),
+        records,
+        packets.len(),
+        request,
+        lengths,
+    );
+    if no != 0 {
         return StoredAll {
-            answer: Submitted::Refused(1),
+            answer: Submitted::Refused(no),
             endpoint: e,
         };
     }
-    if !checks::is_sized(finished.len(), e.shape.slots) {
-        return StoredAll {
-            answer: Submitted::Refused(1),
-            endpoint: e,
-        };
-    }
-    let s = start_request(e, records, packets, request, lengths);
-    let answer = s.answer;
-    let at = s.endpoint;
-    match answer {
-        Outcome::Refused(number) => StoredAll {
-            answer: Submitted::Refused(number),
-            endpoint: at,
-        },
-        Outcome::Done => {
-            let most = starting::requests::required_of(request, lengths.len()) as usize + 2;
-            finish(most, at, ring, finished, records, packets)
-        }
-    }
+    let begun = starting::act::take(e, records, request, lengths.len());
+    let at = begun.endpoint;
+    let v = begun.kept;
+    sending::whole::send(at, v, ring, finished, packets, lengths)
 }

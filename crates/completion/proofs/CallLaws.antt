@@ -99,8 +99,8 @@ fitted e finished records packets t =
     let w = fit-with e records (two .0) in
     let l = fit e (w .fit) .limits in
     record {
-      three = l .three;
-      most = l .most;
+      three = l .slots-least;
+      most = l .slots-most;
       table = eqb-true _ _ (two .1);
       words = w .size;
       row = eqb-true _ _ (last .1);

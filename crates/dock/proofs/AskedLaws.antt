@@ -48,7 +48,7 @@ module _ (incoming : Bool) (address size : ℕ) (lengths : List ℕ) (short : to
       (λ (h : getD lengths k 0 ≤ 65536). h)
       (lt-or-le 65536 (getD lengths k 0))
 
-one-short : (ns : List ℕ) (k : ℕ) → ((j : ℕ) → j < length ns → getD ns j 0 ≤ 65536) → k < length (atLeastOne ns) → getD (atLeastOne ns) k 0 ≤ 65536
+pub one-short : (ns : List ℕ) (k : ℕ) → ((j : ℕ) → j < length ns → getD ns j 0 ≤ 65536) → k < length (atLeastOne ns) → getD (atLeastOne ns) k 0 ≤ 65536
 one-short [] zero short l = omega arith
 one-short [] (suc k) short l = absurd (omega arith)
 one-short (n ∷ ns) k short l = short k l
@@ -67,7 +67,12 @@ module _ (packets : List ℕ) (r : ℕ) (incoming : Bool) (address size : ℕ) (
       ap packetOf (pasted-same packets (packetCount * r) (atLeastOne lengths) packet-room k l)
       ∙ word-asks (getD (atLeastOne lengths) k 0) (omega arith)
 
-  -- The packets of every other record are as they were,
+  -- A packet of the record that the request does not have is as it was,
+  pub packet-behind : (k : ℕ) → length (atLeastOne lengths) ≤ k → packetAt (writePackets packets r (Isoch incoming address size) lengths) r k ≡ packetAt packets r k
+  unfolding packetAt writePackets
+  packet-behind k l = ap packetOf (pasted-behind packets (packetCount * r) (atLeastOne lengths) packet-room (packetIndex r k) (omega arith))
+
+  -- the packets of every other record are as they were,
   pub packets-kept : (s k : ℕ) → k < packetCount → (s ≡ r → ⊥)
       → packetAt (writePackets packets r (Isoch incoming address size) lengths) s k ≡ packetAt packets s k
   unfolding packetAt writePackets

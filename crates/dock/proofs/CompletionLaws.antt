@@ -98,7 +98,7 @@ module _ (e : Endpoint) (v : Record) (number : ℕ) where
   done-reports code fails size c d = done-is (first (completeTests v fails)) v number code size c d
 
   -- The length reported is the completion's size.
-  done-size : (code : ℕ) (fails : Bool) (size : ℕ) (c : Completion) → complete e v number code fails size .answer ≡ answer.Done c → c .length ≡ size
+  pub done-size : (code : ℕ) (fails : Bool) (size : ℕ) (c : Completion) → complete e v number code fails size .answer ≡ answer.Done c → c .length ≡ size
   done-size code fails size c d = ap (λ (x : Completion). x .length) (done-reports code fails size c d)
 
   pub never-done : (c : Completion) → answer.Nothing ≡ answer.Done c → ⊥
@@ -164,7 +164,7 @@ total-is-sum (suc k) packets number = ap (λ (n : ℕ). n + packetAt packets num
 
 module _ (e : Endpoint) (v : Record) (number : ℕ) where
   -- A completion whose code is refused is never done.
-  refused-not-done : (code size : ℕ) (c : Completion) → complete e v number code true size .answer ≡ answer.Done c → ⊥
+  pub refused-not-done : (code size : ℕ) (c : Completion) → complete e v number code true size .answer ≡ answer.Done c → ⊥
   unfolding complete completeTests
   refused-not-done code size c d =
       ⊎-elim

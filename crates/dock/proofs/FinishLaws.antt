@@ -48,12 +48,12 @@ Enough fuel e count =
 not-none : (e : Endpoint) (v : Record) → nextOf e v ≡ none → isNone (nextOf e v) ≡ false → ⊥
 not-none e v q more = false≢true (sym more ∙ ap isNone q)
 
-first-low : (e : Endpoint) → Fits e → e .work .busy ≡ true → e .work .place + 1 < e .shape .slots
+pub first-low : (e : Endpoint) → Fits e → e .work .busy ≡ true → e .work .place + 1 < e .shape .slots
 first-low e fit busy = ⊎-elim (λ h. absurd (false≢true (sym h ∙ busy))) (λ (h : e .work .place + 1 < e .shape .slots). h) (fit .first)
 
 module _ (e : Endpoint) (ring finished records packets : List ℕ) (s : Storing e ring finished records packets) where
   -- A submission that goes on may store again.
-  still : (n : Next) → nextStore e records ≡ n → isNone (nextOf (stepped n e (flyingRecord e records) packets) (flyingRecord e records)) ≡ false
+  pub still : (n : Next) → nextStore e records ≡ n → isNone (nextOf (stepped n e (flyingRecord e records) packets) (flyingRecord e records)) ≡ false
       → (ring′ finished′ : List ℕ) → length ring′ ≡ length ring → length finished′ ≡ length finished
       → Storing (stepped n e (flyingRecord e records) packets) ring′ finished′ records packets
   unfolding stepped

@@ -372,7 +372,7 @@ module _ (s : State) (h : Sound s) where
 
 -- ---- an event handed over
 
-fill-long : (finished : List ℕ) (i : ℕ) (event : Words) → 4 * i + 4 ≤ length finished → length (fillPlace finished i event) ≡ length finished
+pub fill-long : (finished : List ℕ) (i : ℕ) (event : Words) → 4 * i + 4 ≤ length finished → length (fillPlace finished i event) ≡ length finished
 unfolding fillPlace
 fill-long finished i event l =
     picked (λ (x : List ℕ). length x ≡ length finished) (eqb (getD finished (4 * i + 3) 0) 0) (putWords finished i event) finished (λ t. words-length finished i event l) (λ t. refl)
@@ -381,7 +381,7 @@ by-is-slot : (base slots address : ℕ) → isSlot base slots address ≡ true �
 unfolding isSlot
 by-is-slot base slots address t = both (both (by-leb base address) (by-eqb ((address - base) % 16) 0)) (by-ltb ((address - base) / 16) slots) .so t .1
 
-slot-below : (base slots address : ℕ) → 0 < slots → slotNumber (slotOf base slots address) < slots
+pub slot-below : (base slots address : ℕ) → 0 < slots → slotNumber (slotOf base slots address) < slots
 unfolding slotOf
 slot-below base slots address l =
     picked (λ (x : Slot). slotNumber x < slots) (isSlot base slots address) (slot.At ((address - base) / 16)) slot.Outside (by-is-slot base slots address) (λ t. l)
@@ -466,7 +466,7 @@ pub record Looked (s : State) (id : ℕ) (t : ReclaimedOne × List ℕ × List �
   pub touches : Touches (s .endpoint) (s .records) (s .packets) number (flightPart (s .records) (s .endpoint .account .occupancy) number) t
 
 -- The packets of a record that is not bad are at most 64, where it has any.
-few-packets : (e : Endpoint) (v : Record) → (eqb (v .state) inFlight && (leb (e .shape .slots) (v .place + 1) || (eqb (v .kind) isoch && ltb packetCount (v .count)))) ≡ false
+pub few-packets : (e : Endpoint) (v : Record) → (eqb (v .state) inFlight && (leb (e .shape .slots) (v .place + 1) || (eqb (v .kind) isoch && ltb packetCount (v .count)))) ≡ false
     → v .state ≡ inFlight → v .kind ≡ isoch → v .count ≤ packetCount
 few-packets e v f state kind =
     ⊎-elim

@@ -2,10 +2,13 @@
 pub mod AskedLaws
 pub mod BooksLaws
 pub mod CompletionLaws
+pub mod CountedLaws
+pub mod CreditLaws
 pub mod FinishLaws
 pub mod FitLaws
 pub mod InvariantLaws
 pub mod LengthLaws
+pub mod NeededLaws
 pub mod NextLaws
 pub mod NothingLaws
 pub mod OnceLaws
@@ -13,8 +16,11 @@ pub mod Reached
 pub mod Readings
 pub mod ReclaimLaws
 pub mod RefusalLaws
+pub mod RequestedLaws
+pub mod ResidualLaws
 pub mod RetireLaws
 pub mod RowLaws
+pub mod SettledLaws
 pub mod StartLaws
 pub mod StartedLaws
 pub mod StepLaws

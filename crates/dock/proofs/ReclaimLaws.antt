@@ -173,7 +173,7 @@ own-packets-same number packets = record { long = refl; others = λ q k d l. ref
 own-then : (number : ℕ) (a b c : List ℕ) → OwnPackets number a b → OwnPackets number b c → OwnPackets number a c
 own-then number a b c p q = record { long = q .long ∙ p .long; others = λ r k d l. q .others r k d l ∙ p .others r k d l }
 
-put-long : (packets : List ℕ) (r k : ℕ) (p : Packet) → length (putPacket packets r k p) ≡ length packets
+pub put-long : (packets : List ℕ) (r k : ℕ) (p : Packet) → length (putPacket packets r k p) ≡ length packets
 unfolding putPacket
 put-long packets r k p = simp length-set
 
@@ -183,7 +183,7 @@ own-put number packets k p l = record {
   others = λ q j d m. packet-other packets number k p q j (λ e. d (omega arith));
 }
 
-close-own : (k : ℕ) (packets : List ℕ) (number : ℕ) → k ≤ packetCount → OwnPackets number packets (closeBelow k packets number)
+pub close-own : (k : ℕ) (packets : List ℕ) (number : ℕ) → k ≤ packetCount → OwnPackets number packets (closeBelow k packets number)
 unfolding closeBelow
 close-own zero packets number l = own-packets-same number packets
 close-own (suc k) packets number l =

@@ -11,6 +11,7 @@ pub mod Store
 pub mod Submit
 pub mod HandOver
 pub mod Worth
+pub mod Residual
 pub mod Reclaim
 pub mod Cancel
 pub mod Retire

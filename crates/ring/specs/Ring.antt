@@ -7,6 +7,8 @@ use Rattle.base.specs.First.{pick}
 use Rattle.trb.specs.Layouts.{wordsOf, putWords}
 use Rattle.trb.specs.declared.Trb.{Trb}
 use Rattle.trb.specs.declared.Trb.the-variants.{Link}
+use Rattle.ring.specs.declared.Manner.{Manner}
+use Rattle.ring.specs.declared.Manner.the-variants.{Usual, Deferred, Around}
 use Rattle.ring.specs.declared.Position.{Position}
 use Rattle.ring.specs.declared.Pointer.{Pointer}
 use Rattle.ring.specs.declared.Slot.{Slot}
@@ -23,6 +25,20 @@ onward p = record { place = p .place + 1; cycle = p .cycle }
 -- The position after the link: place 0, the cycle toggled.
 abbrev pub around : Position → Position
 around p = record { place = 0; cycle = not (p .cycle) }
+
+-- A store by its manner: its cycle bit, the position behind it, and both with the ring.
+abbrev pub cycleBy : Manner → Bool → Bool
+cycleBy Usual cycle = cycle
+cycleBy Deferred cycle = not cycle
+cycleBy Around cycle = cycle
+
+abbrev pub positionBy : Manner → Position → Position
+positionBy Usual p = onward p
+positionBy Deferred p = onward p
+positionBy Around p = around p
+
+unfoldable pub storedBy : Manner → List ℕ → Position → Trb → Position × List ℕ
+storedBy manner ring p trb = (positionBy manner p, storeAt ring (p .place) trb (cycleBy manner (p .cycle)))
 
 -- "A store puts a TRB at the place with the current cycle; the place rises."
 abbrev pub enqueTransfer : List ℕ → Position → Trb → Position × List ℕ

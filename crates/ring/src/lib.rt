@@ -10,7 +10,7 @@
 ghost use mathlib.Core.Path.{_≡_};
 ghost use Prim.Native.Nat.{_+_, _*_, _^_, _<_, _≤_};
 ghost use lib.ListN.{length};
-ghost use Rattle.ring.specs.Ring.{storeAt, enqueTransfer, enqueDeferred, nextIndex, slotAddress, enqueuePointer, slotOf};
+ghost use Rattle.ring.specs.Ring.{storeAt, cycleBy, positionBy, storedBy, enqueTransfer, enqueDeferred, nextIndex, slotAddress, enqueuePointer, slotOf};
 use trb::Trb;
 
 // Where the next TRB goes, and the cycle bit that it gets.
@@ -29,18 +29,81 @@ pub fn set_transfer_trb(ring: &mut [u32], place: usize, trb: Trb, cycle: bool)
     trb::encode(&mut ring[start..start + 4], trb, cycle);
 }
 
+// How a store is made: with the current cycle, after which the place rises; the same with the opposite cycle; or as the link's, at the last slot.
+pub enum Manner {
+    Usual,
+    Deferred,
+    Around,
+}
+
+// The cycle bit of a store.
+fn cycle_by(manner: Manner, cycle: bool) -> bool
+    ensures { λ r. ⌜ r ≡ cycleBy manner cycle ⌝ }
+{
+    match manner {
+        Manner::Usual => cycle,
+        Manner::Deferred => !cycle,
+        Manner::Around => cycle,
+    }
+}
+
+// Where the producer stands behind a store.
+fn position_by(manner: Manner, p: Position) -> Position
+    requires { ⌜ p .place + 1 < 2 ^ 64 ⌝ }
+    ensures { λ r. ⌜ r ≡ positionBy manner p ⌝ }
+{
+    let place = p.place;
+    let cycle = p.cycle;
+    match manner {
+        Manner::Usual => Position {
+            place: place + 1,
+            cycle,
+        },
+        Manner::Deferred => Position {
+            place: place + 1,
+            cycle,
+        },
+        Manner::Around => Position {
+            place: 0,
+            cycle: !cycle,
+        },
+    }
+}
+
+// One store on values: the TRB at the place, and the position behind it.
+fn put(ring: &mut [u32], p: Position, trb: Trb, manner: Manner) -> Position
+    requires { ⌜ 4 * p .place + 4 ≤ length (now ring) ⌝ }
+    ensures { λ r. ⌜ (r, now (ring .exit)) ≡ storedBy manner (now (ring .entry)) p trb ⌝ }
+{
+    set_transfer_trb(ring, p.place, trb, cycle_by(manner, p.cycle));
+    position_by(manner, p)
+}
+
+// One store with the position lent and changed in place.
+pub fn step(p: &mut Position, ring: &mut [u32], trb: Trb, manner: Manner)
+    requires { ⌜ 4 * now p .place + 4 ≤ length (now ring) ⌝ }
+    ensures { λ _. ⌜ (now (p .exit), now (ring .exit)) ≡ storedBy manner (now (ring .entry)) (now (p .entry)) trb ⌝ }
+{
+    let next = put(ring, *p, trb, manner);
+    *p = next;
+}
+
+// The same for a caller that keeps the position by value.
+fn stored(ring: &mut [u32], p: Position, trb: Trb, manner: Manner) -> Position
+    requires { ⌜ 4 * p .place + 4 ≤ length (now ring) ⌝ }
+    ensures { λ r. ⌜ (r, now (ring .exit)) ≡ storedBy manner (now (ring .entry)) p trb ⌝ }
+{
+    let mut q = p;
+    step(&mut q, ring, trb, manner);
+    q
+}
+
 // A TRB at the place, with the current cycle; the place rises.
 pub fn enque_transfer(ring: &mut [u32], p: Position, trb: Trb) -> Position
     requires { ⌜ 4 * p .place + 4 ≤ length (now ring) ⌝ }
     ensures { λ r. ⌜ (r, now (ring .exit)) ≡ enqueTransfer (now (ring .entry)) p trb ⌝ }
 {
-    let place = p.place;
-    let cycle = p.cycle;
-    set_transfer_trb(ring, place, trb, cycle);
-    Position {
-        place: place + 1,
-        cycle,
-    }
+    stored(ring, p, trb, Manner::Usual)
 }
 
 // The same with the opposite cycle: the controller does not take it yet.
@@ -48,13 +111,7 @@ pub fn enque_transfer_deferred_cycle(ring: &mut [u32], p: Position, trb: Trb) ->
     requires { ⌜ 4 * p .place + 4 ≤ length (now ring) ⌝ }
     ensures { λ r. ⌜ (r, now (ring .exit)) ≡ enqueDeferred (now (ring .entry)) p trb ⌝ }
 {
-    let place = p.place;
-    let cycle = p.cycle;
-    set_transfer_trb(ring, place, trb, !cycle);
-    Position {
-        place: place + 1,
-        cycle,
-    }
+    stored(ring, p, trb, Manner::Deferred)
 }
 
 // The link at the place, which is the last slot, with the old cycle; then place 0 and the cycle toggled. `chain` says that a TD goes on behind it.
@@ -62,18 +119,12 @@ pub fn next_index(ring: &mut [u32], p: Position, base: u64, chain: bool) -> Posi
     requires { ⌜ 4 * p .place + 4 ≤ length (now ring) ⌝ }
     ensures { λ r. ⌜ (r, now (ring .exit)) ≡ nextIndex (now (ring .entry)) p base chain ⌝ }
 {
-    let place = p.place;
-    let cycle = p.cycle;
     let link = Trb::Link {
         address: base,
         toggle: true,
         chain,
     };
-    set_transfer_trb(ring, place, link, cycle);
-    Position {
-        place: 0,
-        cycle: !cycle,
-    }
+    stored(ring, p, link, Manner::Around)
 }
 
 // The address of a slot.

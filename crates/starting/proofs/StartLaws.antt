@@ -14,11 +14,7 @@ use Rattle.mask.specs.Compute.{lowestClear}
 use Rattle.mask.specs.declared.Found.{Found}
 use Rattle.mask.specs.declared.Found.the-variants.{At, Full}
 use Rattle.mask.proofs.ComputeLaws.{lowest-answers}
-use Rattle.base.specs.Part.{put}
-use Rattle.ids.specs.Free.{recordWords, freeIn}
-use Rattle.ids.specs.Order.{afterId}
 use Rattle.table.specs.Packets.{packetCount}
-use Rattle.table.specs.Records.{recordList}
 use Rattle.dock.specs.Fit.{fitsWith}
 use Rattle.dock.specs.Limits.{packetsSize}
 use Rattle.dock.specs.Requests.{required, recordFor}
@@ -28,7 +24,8 @@ use Rattle.dock.specs.declared.Request.{Request}
 use Rattle.dock.specs.declared.Request.the-variants.{Control, Bulk, Interrupt, Isoch}
 use Rattle.checks.proofs.Laws.{fit, fit-with}
 use Rattle.starting.specs.Admitted.{Admitted}
-use Rattle.starting.specs.Counts.{givenBy, requiredBy, recordBy, startedBy, begunWith}
+use Rattle.starting.specs.Counts.{givenBy, requiredBy, recordBy, startedBy, takenWith, begunWith}
+use Rattle.starting.specs.declared.act.Begun.{Begun}
 
 -- The record that is found is one of the 64.
 pub found-within : (m : ℕ) {i : ℕ} → At i ≡ lowestClear m → i < 64
@@ -81,25 +78,35 @@ admitted e records packets request lengths t =
       next = sound .next;
       room =
           rw (sym (required-by request lengths))
-          (room (e .shape .slots) (e .account .outstanding) (required request lengths) (sound .limits .most) (quiet ts 3 refl t (omega arith)));
+          (room (e .shape .slots) (e .account .outstanding) (required request lengths) (sound .limits .slots-most) (quiet ts 3 refl t (omega arith)));
       few = few request lengths (quiet ts 4 refl t (omega arith));
     }
 
--- All that an admitted start leaves, as the code makes it.
-pub begun-by : (e : Endpoint) (records packets : List ℕ) (request : Request) (lengths : List ℕ)
-    → let id = freeIn records (e .account .occupancy) (e .account .next) in
-    let number = numberFrom (lowestClear (e .account .occupancy)) in
-    _≡_ {A = Endpoint × List ℕ × List ℕ} (
-      startedBy e (afterId id) number request (length lengths),
-      put recordWords records number (recordList (recordBy request (length lengths) id (e .at .place))),
-      writePackets packets number request lengths,
+-- What an admitted start takes, as the code makes it,
+pub taken-is : (e : Endpoint) (records : List ℕ) (request : Request) (lengths : List ℕ)
+    → takenWith e records request (length lengths)
+    ≡ (
+      record { endpoint = startedEndpoint e records request lengths; kept = recordFor request lengths (idTaken e records) (e .at .place) },
+      startedRecords e records request lengths,
     )
-    (begunWith e records packets request lengths)
-unfolding begunWith startedBy startedEndpoint startedRecords recordTaken idTaken charged recordBy
-begun-by e records packets (Control kind request value index address size) lengths = refl
-begun-by e records packets (Bulk incoming address size) lengths = refl
-begun-by e records packets (Interrupt incoming address size) lengths = refl
-begun-by e records packets (Isoch incoming address size) lengths = refl
+unfolding takenWith startedBy startedEndpoint startedRecords recordTaken idTaken charged recordBy
+taken-is e records (Control kind request value index address size) lengths = refl
+taken-is e records (Bulk incoming address size) lengths = refl
+taken-is e records (Interrupt incoming address size) lengths = refl
+taken-is e records (Isoch incoming address size) lengths = refl
+
+abbrev left : Begun × List ℕ → List ℕ → Endpoint × List ℕ × List ℕ
+left b packets = (b .0 .endpoint, b .1, packets)
+
+-- and all that it leaves.
+pub begun-by : (e : Endpoint) (records packets : List ℕ) (request : Request) (lengths : List ℕ) {b : Begun} {number : ℕ} {records₁ packets₁ : List ℕ}
+    → _≡_ {A = Begun × List ℕ} (b, records₁) (takenWith e records request (length lengths)) → number ≡ numberFrom (lowestClear (e .account .occupancy))
+    → packets₁ ≡ writePackets packets number request lengths
+    → _≡_ {A = Endpoint × List ℕ × List ℕ} (b .endpoint, records₁, packets₁) (begunWith e records packets request lengths)
+unfolding begunWith recordTaken
+begun-by e records packets request lengths {b} {number} {records₁} {packets₁} taken is wrote =
+    ap (left (b, records₁)) (wrote ∙ ap (λ (n : ℕ). writePackets packets n request lengths) is)
+    ∙ ap (λ (x : Begun × List ℕ). left x (writePackets packets (recordTaken e) request lengths)) (taken ∙ taken-is e records request lengths)
 
 -- The test of a crowded ring, by the number of lengths.
 pub crowded-by : (slots outstanding : ℕ) (request : Request) (lengths : List ℕ)

@@ -4,15 +4,19 @@ use mathlib.Core.Bool.{false}
 use mathlib.Core.List.{List}
 use lib.Dec.{eqb}
 use Rattle.base.specs.First.{pick}
-use Rattle.mask.specs.Compute.{setBit}
-use Rattle.table.specs.Records.{inFlight}
+use Rattle.base.specs.Part.{put}
+use Rattle.mask.specs.Compute.{lowestClear, setBit}
+use Rattle.ids.specs.Free.{recordWords, freeIn}
+use Rattle.ids.specs.Order.{afterId}
+use Rattle.table.specs.Records.{inFlight, recordList}
 use Rattle.table.specs.declared.records.Record.{Record}
 use Rattle.dock.specs.declared.Endpoint.{Endpoint}
 use Rattle.dock.specs.declared.Request.{Request}
 use Rattle.dock.specs.declared.Request.the-variants.{Control, Bulk, Interrupt, Isoch}
 use Rattle.dock.specs.Requests.{kindOf, incomingOf, lengthOf, setupOf, bufferOf}
-use Rattle.dock.specs.Start.{begun, recordTaken, startedEndpoint, startedRecords, writePackets}
+use Rattle.dock.specs.Start.{numberFrom, begun, recordTaken, startedEndpoint, startedRecords, writePackets}
 use Rattle.dock.specs.State.{withWork}
+use Rattle.starting.specs.declared.act.Begun.{Begun}
 
 -- The packets given.
 abbrev pub givenBy : Request → ℕ → ℕ
@@ -56,6 +60,14 @@ startedBy e next number request count =
       outstanding = e .account .outstanding + requiredBy request count;
     })
     (begun e number request)
+
+-- What it takes: the endpoint and the record that is kept, and the records with that one in.
+unfoldable pub takenWith : Endpoint → List ℕ → Request → ℕ → Begun × List ℕ
+takenWith e records request count =
+    let id = freeIn records (e .account .occupancy) (e .account .next) in
+    let number = numberFrom (lowestClear (e .account .occupancy)) in
+    let v = recordBy request count id (e .at .place) in
+    (record { endpoint = startedBy e (afterId id) number request count; kept = v }, put recordWords records number (recordList v))
 
 -- All that an admitted start leaves.
 unfoldable pub begunWith : Endpoint → List ℕ → List ℕ → Request → List ℕ → Endpoint × List ℕ × List ℕ

@@ -6,7 +6,8 @@ ghost use lib.Seq.{paste};
 ghost use Rattle.mask.specs.Compute.{lowestClear};
 ghost use Rattle.table.specs.Packets.{packetCount};
 ghost use Rattle.dock.specs.Start.{numberFrom, atLeastOne, writePackets};
-ghost use Rattle.starting.specs.Counts.{givenBy, requiredBy, startedBy, begunWith};
+ghost use Rattle.starting.specs.Counts.{givenBy, requiredBy, startedBy, takenWith, begunWith};
+ghost use Rattle.dock.specs.Limits.{recordsSize};
 ghost use Rattle.starting.specs.Admitted.{Admitted};
 use crate::requests;
 use dock::Account;
@@ -14,6 +15,7 @@ use dock::Endpoint;
 use dock::Request;
 use dock::Work;
 use mask::Found;
+use table::records::Record;
 
 // "The lowest clear bit is taken."
 fn record_taken(occupancy: u64) -> usize
@@ -107,6 +109,27 @@ fn started(e: Endpoint, next: u64, number: usize, request: Request, count: usize
     next
 }
 
+// What an admitted submission takes: the endpoint with it under way, and the record that is kept of it.
+pub struct Begun {
+    pub endpoint: Endpoint,
+    pub kept: Record,
+}
+
+// The id, the record and the count.
+pub fn take(e: Endpoint, records: &mut [u64], request: Request, count: usize) -> Begun
+    requires { ⌜ (length (now records) ≡ recordsSize) × (0 < e .account .next) × (e .account .outstanding + requiredBy request count ≤ 4094) ⌝ }
+    ensures { λ r. ⌜ (r, now (records .exit)) ≡ takenWith e (now (records .entry)) request count ⌝ }
+{
+    let number = record_taken(e.account.occupancy);
+    let taken = ids::free_id(records, e.account.occupancy, e.account.next);
+    let v = requests::record_for(request, count, taken.id, e.at.place);
+    table::records::put_record(records, number, v);
+    Begun {
+        endpoint: started(e, taken.next, number, request, count),
+        kept: v,
+    }
+}
+
 // All that an admitted submission takes and writes.
 pub fn begin(
     e: Endpoint,
@@ -118,10 +141,8 @@ pub fn begin(
     requires { ⌜ Admitted e (length (now records)) (length (now packets)) request (length (now lengths)) ⌝ }
     ensures { λ r. ⌜ (r, now (records .exit), now (packets .exit)) ≡ begunWith e (now (records .entry)) (now (packets .entry)) request (now (lengths .entry)) ⌝ }
 {
+    let begun = take(e, records, request, lengths.len());
     let number = record_taken(e.account.occupancy);
-    let taken = ids::free_id(records, e.account.occupancy, e.account.next);
-    let v = requests::record_for(request, lengths.len(), taken.id, e.at.place);
-    table::records::put_record(records, number, v);
     write_packets(packets, number, request, lengths);
-    started(e, taken.next, number, request, lengths.len())
+    begun.endpoint
 }

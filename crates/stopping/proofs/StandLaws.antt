@@ -32,4 +32,4 @@ record-size e records passed = fit-with e records (record-fits e records passed)
 
 -- The place of an endpoint that fits has an address.
 pub place-address : (e : Endpoint) → fits e ≡ true → e .shape .base + 16 * e .at .place < 2 ^ 64
-place-address e t = let f = fit e t in let l = f .limits in let p = f .places in omega (arith, l .room, p .here)
+place-address e t = let f = fit e t in let l = f .limits in let p = f .places in omega (arith, l .base-room, p .here)

@@ -16,7 +16,8 @@ use Rattle.dock.specs.Store.{storeTests, storeNo, stepped, slotStored, ringStor
 use Rattle.dock.specs.Stores.{trbOf, packetSize}
 use Rattle.dock.specs.declared.Endpoint.{Endpoint}
 use Rattle.dock.specs.declared.StoredOne.{StoredOne}
-use Rattle.checks.proofs.Laws.{fit, fit-with, kept, count-most}
+use Rattle.checks.proofs.Laws.{fit, fit-with, count-most}
+use Rattle.dock.proofs.TestLaws.{on-course}
 use Rattle.storing.specs.Ready.{Ready}
 use Rattle.storing.specs.Steps.{controlTrb, trbWith, advancedBy, concludedBy, linkBy, trbBy, setupBy, storedWith}
 
@@ -35,17 +36,17 @@ ready e ring finished records packets t =
     let busy = not-false (e .work .busy) (quiet ts 1 refl t (omega arith)) in
     let whole = fit-with e records (two .0) in
     let sound = fit e (whole .fit) in
-    let way = kept e records (whole .kept) busy in
+    let way = on-course e records (whole .kept) busy in
     record {
       slots = eqb-true _ _ (two .1);
       places = eqb-true _ _ (three .1);
       table = whole .size;
       words = eqb-true _ _ (all .1);
-      most = sound .limits .most;
+      most = sound .limits .slots-most;
       here = sound .places .here;
       setup = sound .places .setup busy;
       number = way .number;
-      stored = let s = way .stored in omega (arith, count-most (recordAt records (e .work .number)));
+      stored = let s = way .counted in omega (arith, count-most (recordAt records (e .work .number)));
     }
 
 -- ---- what each store leaves

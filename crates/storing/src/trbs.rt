@@ -37,7 +37,7 @@ pub fn setup_trb(v: Record) -> Trb
 }
 
 // Data: "bit 2 (short interrupt) and bit 16 when in".
-fn data_trb(v: Record) -> Trb
+pub fn data_trb(v: Record) -> Trb
     ensures { λ r. ⌜ r ≡ dataTrb v ⌝ }
 {
     Trb::Data {
@@ -62,7 +62,7 @@ fn status_in(v: Record) -> bool
 }
 
 // Status: "bit 5 (interrupt), bit 16 clear exactly for in with data".
-fn status_trb(v: Record) -> Trb
+pub fn status_trb(v: Record) -> Trb
     ensures { λ r. ⌜ r ≡ statusTrb v ⌝ }
 {
     Trb::Status {
@@ -72,7 +72,7 @@ fn status_trb(v: Record) -> Trb
 }
 
 // Normal: "address, length, w3 bits 2 and 5".
-fn normal_trb(v: Record) -> Trb
+pub fn normal_trb(v: Record) -> Trb
     ensures { λ r. ⌜ r ≡ normalTrb v ⌝ }
 {
     Trb::Normal {

@@ -1,7 +1,7 @@
 -- `checks::limits_hold` meets its contract: at each return the tests of the code decide the facts `Limits`. Assumes nothing.
 use native.Mathlib.Omega.{arith}
 use Rattle.base.proofs.Decide.{holds, fails}
-use Rattle.checks.proofs.Laws.{by-limits}
+use Rattle.dock.proofs.TestLaws.{by-limits}
 use borrow.Author.Needs.{needs}
 use Rattle.checks.proofs.limits_hold.Statement.{statement}
 use Rattle.checks.proofs.limits_hold.Tie as tie
@@ -32,14 +32,14 @@ returns-8 c =
     let a = c .before .before .before .before .before .before .before .args in
     holds (by-limits (a .slots) (a .base) (a .slot) (a .dci))
     (record {
-      three = omega arith;
-      most = omega arith;
-      page = omega arith;
-      room = omega arith;
-      low = omega arith;
-      high = omega arith;
-      one = omega arith;
-      byte = omega arith;
+      slots-least = omega arith;
+      slots-most = omega arith;
+      base-aligned = omega arith;
+      base-room = omega arith;
+      dci-least = omega arith;
+      dci-most = omega arith;
+      slot-least = omega arith;
+      slot-most = omega arith;
     })
 
 pub limits-hold-spec : {M : Type 1} → statement M

@@ -1,10 +1,12 @@
--- `ring::enque_transfer` meets its contract: the store, and one place on. Assumes nothing.
+-- `ring::enque_transfer` meets its contract: it is the usual store. Assumes nothing.
+use Rattle.ring.specs.Ring.{storedBy}
 use borrow.Author.Needs.{needs}
 use Rattle.ring.proofs.enque_transfer.Statement.{statement}
 use Rattle.ring.proofs.enque_transfer.Tie as tie
 
 returns : tie.Need-returns
-returns c = simp (c .before .before .set-transfer-trb .ensures)
+unfolding storedBy
+returns c = c .before .before .stored .ensures
 
 pub enque-transfer-spec : {M : Type 1} → statement M
-enque-transfer-spec = tie.close (tie.spec (λ c κs. search needs) (λ c. search needs) (λ c. search needs) returns)
+enque-transfer-spec = tie.close (tie.spec (λ c κs. search needs) (λ c. search needs) returns)

@@ -1,82 +1,55 @@
--- `submit_request` meets its contract: the sizes, the start, and its stores in order. Assumes nothing.
-use Prim.Native.Nat.{ℕ, _+_}
-use mathlib.Core.Bool.{true, _&&_}
+-- `submit_request` meets its contract: the refusals, what the start takes, and the stores. Assumes nothing.
+use Prim.Native.Nat.{ℕ}
 use mathlib.Core.List.{List}
 use mathlib.Core.Path.{_≡_, sym, ap, _∙_}
 use native.Mathlib.Omega.{arith}
 use denote.Ref.{now}
-use lib.Dec.{eqb}
 use lib.ListN.{length}
-use Rattle.base.proofs.Decide.{passed, failed}
-use Rattle.dock.specs.declared.StoredAll.{StoredAll}
-use Rattle.dock.specs.Limits.{ringSize}
-use Rattle.dock.specs.Submit.{finish, joined}
-use Rattle.starting.proofs.StartLaws.{required-by}
-use Rattle.building.proofs.SubmitLaws.{was-admitted, unsized, whole}
+use Rattle.building.specs.Numbers.{submitNo}
+use Rattle.building.proofs.SubmitLaws.{refused, takes, sendable, whole}
 use borrow.Author.Needs.{needs}
 use Rattle.building.proofs.submit.submit_request.Statement.{statement}
 use Rattle.building.proofs.submit.submit_request.Tie as tie
 
--- Past the tests the ring and the finished table have their sizes.
-sized : (c : tie.Else2)
-    → let a = c .before .before .before .before .before .before .before .before .before .args in
-    (eqb (length (now (a .ring))) (ringSize (a .e .shape .slots)) && eqb (length (now (a .finished))) (ringSize (a .e .shape .slots))) ≡ true
-sized c = simp (passed (c .before .before .before .is-sized .ensures) (c .before .before .if1 .left), passed (c .before .is-sized2 .ensures) (c .if2 .left))
+-- Behind the test the number is 0.
+none : (c : tie.Else1)
+    → let a = c .before .before .before .before .before .before .before .before .args in
+    submitNo (a .e) (length (now (a .ring))) (length (now (a .finished))) (now (a .records)) (length (now (a .packets))) (a .request) (now (a .lengths)) ≡ 0
+none c = sym (c .before .submit-no .ensures) ∙ c .if1 .left
 
 returns : tie.Need-returns
 returns c =
-    let a = c .before .before .before .before .before .before .before .args in
-    unsized (a .e) (now (a .records)) (now (a .packets)) (a .request) (now (a .lengths)) (now (a .ring)) (now (a .finished))
-    (simp (failed (c .before .is-sized .ensures) (c .if1 .taken)))
+    let a = c .before .before .before .before .before .before .before .before .args in
+    let told = c .before .submit-no .ensures in
+    simp told (refused (a .e) (now (a .ring)) (now (a .finished)) (now (a .records)) (now (a .packets)) (a .request) (now (a .lengths)) (λ z. c .if1 .taken (told ∙ z)))
+
+take-requires : tie.Need-take-requires
+take-requires c κs =
+    let a = c .before .before .before .before .before .before .before .before .before .args in
+    let t = takes (a .e) (now (a .ring)) (now (a .finished)) (now (a .records)) (now (a .packets)) (a .request) (now (a .lengths)) (none (c .before)) in
+    (t .table, t .next, t .room)
+
+send-requires : tie.Need-send-requires
+send-requires c κs =
+    let a = c .before .before .before .before .before .before .before .before .before .before .before .before .before .before .before .before .before .args in
+    sendable (a .e) (now (a .ring)) (now (a .finished)) (now (a .records)) (now (a .packets)) (a .request) (now (a .lengths)) (none (c .before .before .before .before .before .before .before .before .before)) (c .before .before .before .before .before .before .before .take .ensures)
 
 returns-2 : tie.Need-returns-2
 returns-2 c =
-    let a = c .before .before .before .before .before .before .before .before .before .args in
-    unsized (a .e) (now (a .records)) (now (a .packets)) (a .request) (now (a .lengths)) (now (a .ring)) (now (a .finished))
-    (simp (passed (c .before .before .before .is-sized .ensures) (c .before .before .if1 .left), failed (c .before .is-sized2 .ensures) (c .if2 .taken)))
-
-add-most : tie.Need-add-most
-add-most c =
-    let a = c .before .before .before .before .before .before .before .before .before .before .before .before .before .before .before .before .before .before .before .before .args in
-    let k = was-admitted (a .e) (now (a .records)) (now (a .packets)) (a .request) (now (a .lengths)) (c .before .before .before .before .before .before .before .before .start-request .ensures) (c .before .enum-told .given .1) in
-    omega (arith, c .required-of .ensures)
-
-returns-3 : tie.Need-returns-3
-returns-3 c =
-    let a = c .before .before .before .before .before .before .before .before .before .before .before .before .before .before .before .before .before .before .before .before .args in
-    whole (a .e) (now (a .records)) (now (a .packets)) (a .request) (now (a .lengths)) (now (a .ring)) (now (a .finished))
-    (sized (c .before .before .before .before .before .before .before .before .before .before .before)) (c .before .before .before .before .before .before .before .before .start-request .ensures) (c .before .answer .given .1)
-
-returns-4 : tie.Need-returns-4
-returns-4 c =
-    let a = c .before .before .before .before .before .before .before .before .before .before .before .before .before .before .before .before .before .before .before .before .before .before .before .before .before .before .before .before .before .args in
-    let records = c .before .before .before .before .before .before .before .before .before .before .before .before .before .before .before .before .before .start-request .last .1 .0 in
-    let packets = c .before .before .before .before .before .before .before .before .before .before .before .before .before .before .before .before .before .start-request .last .1 .1 .0 in
-    ap (λ (x : StoredAll × List ℕ × List ℕ). joined x records packets) (c .before .before .before .before .finish .ensures)
-    ∙ ap (λ (n : ℕ). joined (finish (n + 2) (c .before .before .before .before .before .before .before .before .before .before .before .before .before .before .before .before .before .start-request .result .endpoint) (now (a .ring)) (now (a .finished)) records packets) records packets)
-    (c .before .before .before .before .before .before .before .before .before .required-of .ensures ∙ sym (required-by (a .request) (now (a .lengths))))
-    ∙ whole (a .e) (now (a .records)) (now (a .packets)) (a .request) (now (a .lengths)) (now (a .ring)) (now (a .finished))
-    (sized (c .before .before .before .before .before .before .before .before .before .before .before .before .before .before .before .before .before .before .before .before)) (c .before .before .before .before .before .before .before .before .before .before .before .before .before .before .before .before .before .start-request .ensures) (c .before .before .before .before .before .before .before .before .before .before .enum-told .given .1)
+    let a = c .before .before .before .before .before .before .before .before .before .before .before .before .before .before .before .before .before .before .before .before .before .before .before .before .args in
+    whole (a .e) (now (a .ring)) (now (a .finished)) (now (a .records)) (now (a .packets)) (a .request) (now (a .lengths)) (none (c .before .before .before .before .before .before .before .before .before .before .before .before .before .before .before .before)) (c .before .before .before .before .before .before .before .before .before .before .before .before .before .before .take .ensures) (c .before .before .before .before .before .before .send .ensures)
 
 pub submit-request-spec : {M : Type 1} → statement M
 submit-request-spec =
     tie.close
     (tie.spec
     (λ c κs. search needs)
+    (λ c. search needs)
     returns
-    (λ c κs. search needs)
-    returns-2
-    (λ c κs. search needs)
-    (λ c. search needs)
-    (λ c. search needs)
-    (λ c κs. search needs)
-    add-most
-    (λ c κs. search needs)
-    (λ c. search needs)
-    (λ c. search needs)
-    returns-3
+    take-requires
+    send-requires
     (λ c. search needs)
     (λ c. search needs)
     (λ c. search needs)
     (λ c. search needs)
-    returns-4)
+    returns-2)

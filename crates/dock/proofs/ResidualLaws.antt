@@ -1,0 +1,73 @@
+-- The bytes that the dock counts are the bytes moved, for every event that the standard lets a controller write: for a packet, a bulk or interrupt
+-- request and a control request's data. Assumes nothing.
+use Prim.Native.Nat.{ℕ, _+_, _-_, _%_, _^_, _≤_, _<_}
+use mathlib.Core.Bool.{Bool, true, false, not, false≢true}
+use mathlib.Core.List.{List}
+use mathlib.Core.Path.{_≡_, refl, ap, _∙_, subst}
+use native.Mathlib.Omega.{arith}
+use borrow.Author.Tests.{eqb-true, eqb-false}
+use lib.Dec.{eqb}
+use Rattle.trb.specs.declared.Words.{Words}
+use Rattle.table.specs.Finished.{finishedAt}
+use Rattle.table.specs.declared.finished.Finished.the-variants as place
+use Rattle.table.specs.declared.records.Record.{Record}
+use Rattle.dock.specs.declared.Completion.{Completion}
+use Rattle.dock.specs.declared.Endpoint.{Endpoint}
+use Rattle.dock.specs.declared.Reclaimed.the-variants as answer
+use Rattle.dock.specs.Worth.{bytes, counts, worth, accepted, movedBytes}
+use Rattle.dock.specs.Residual.{Told, residue, moved, nothing, Tells, success, shortPacket, stopped, stoppedShortPacket, stoppedLengthInvalid, Writes, credit}
+use Rattle.dock.specs.Reclaim.{complete, codeOf, remainingOf, bulkBy, reclaimBulk, recordedBy, recordedLength}
+use Rattle.dock.proofs.RetireLaws.{picked}
+use Rattle.dock.proofs.CompletionLaws.{done-size, refused-not-done}
+
+-- ---- what a controller may write
+
+-- A controller can tell of any bytes that it moved, at most those asked for.
+pub can-write : (t : Told) (requested n : ℕ) → n ≤ requested → (field : ℕ) × Writes t requested field n
+can-write residue requested n l = (requested - n, omega arith)
+can-write moved requested n l = (n, (refl, l))
+can-write nothing requested n l = (0, l)
+
+taken-off : (requested field n : ℕ) → n + field ≡ requested → movedBytes requested field ≡ n
+taken-off requested field n is = omega arith
+
+-- ---- a packet
+
+-- What a packet is worth is what the standard lets its event count for.
+pub worth-residual : {code : ℕ} {t : Told} → Tells code t → (requested field n : ℕ) → Writes t requested field n → worth code requested field ≡ bytes (credit t n)
+unfolding worth counts
+worth-residual success requested field n is = ap bytes (taken-off requested field n is)
+worth-residual shortPacket requested field n is = ap bytes (taken-off requested field n is)
+worth-residual stopped requested field n is = ap bytes (taken-off requested field n is)
+worth-residual stoppedShortPacket requested field n is = ap bytes (is .0)
+worth-residual stoppedLengthInvalid requested field n is = refl
+
+-- ---- bulk, interrupt and control
+
+-- Where the code is accepted (Success, Short Packet) the length less the field is the bytes moved.
+pub moved-residual : {code : ℕ} {t : Told} → Tells code t → accepted code ≡ true → (requested field n : ℕ) → Writes t requested field n → movedBytes requested field ≡ n
+unfolding accepted
+moved-residual success a requested field n is = taken-off requested field n is
+moved-residual shortPacket a requested field n is = taken-off requested field n is
+moved-residual stopped a requested field n is = absurd (false≢true a)
+moved-residual stoppedShortPacket a requested field n is = absurd (false≢true a)
+moved-residual stoppedLengthInvalid a requested field n is = absurd (false≢true a)
+
+module _ (e : Endpoint) (v : Record) (number : ℕ) (w : Words) (t : Told) (says : Tells (codeOf w) t) (n : ℕ) (is : Writes t (v .length) (remainingOf w) n) where
+  -- A bulk or interrupt request that is done reports the bytes moved.
+  pub bulk-moved : (finished : List ℕ) (c : Completion) → finishedAt finished (v .place) ≡ place.Event w → reclaimBulk e finished v number .answer ≡ answer.Done c → c .length ≡ n
+  unfolding reclaimBulk
+  bulk-moved finished c here d = told (accepted (codeOf w)) refl (rw here at d)
+    where
+      told : (b : Bool) → accepted (codeOf w) ≡ b → bulkBy (place.Event w) e v number .answer ≡ answer.Done c → c .length ≡ n
+      told true a d = done-size e v number (codeOf w) _ _ c d ∙ moved-residual says a (v .length) (remainingOf w) n is
+      told false a d =
+          absurd (refused-not-done e v number (codeOf w) (movedBytes (v .length) (remainingOf w)) c
+          (subst (λ (b : Bool). complete e v number (codeOf w) (not b) (movedBytes (v .length) (remainingOf w)) .answer ≡ answer.Done c) a d))
+
+  -- What a data event records is the length that the status event then reports: the bytes moved.
+  pub data-moved : accepted (codeOf w) ≡ true → v .length < 2 ^ 64 → recordedLength v (recordedBy (place.Event w) v) ≡ n
+  data-moved a fits =
+      let same = moved-residual says a (v .length) (remainingOf w) n is in
+      let recorded : ℕ = (movedBytes (v .length) (remainingOf w) + 1) % 2 ^ 64 in
+      picked (λ (x : ℕ). x ≡ n) (eqb recorded 0) _ _ (λ z. omega (arith, eqb-true recorded 0 z)) (λ z. omega (arith, eqb-false recorded 0 z))

@@ -1,0 +1,3 @@
+-- The definitions that the contracts of a whole submission's parts cite.
+pub mod Stride
+pub mod Sent
