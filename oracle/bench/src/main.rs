@@ -1,6 +1,7 @@
 //! Submit, hand over and reclaim of ISO requests: the unchanged Rust and our library in one program, by turns.
 //!
-//!     bench [BLOCKS]                             the table: nanoseconds a request, the least of BLOCKS blocks (200 unless given)
+//!     bench table BLOCKS                         the table: nanoseconds a request, the least of BLOCKS blocks
+//!     bench first BLOCKS                         its first row
 //!     bench count rust|ours L PACKETS DEPTH N    N requests of one side, for counting instructions
 //!
 //! A packet is 192 bytes in, max packet 192. A request's events are handed over at once, coded Success, in order; DEPTH requests are in
@@ -136,7 +137,7 @@ fn row(slots: usize, packets: usize, depth: usize, blocks: u32, off: f64) -> Vec
         .collect()
 }
 
-fn table(blocks: u32) {
+fn table(blocks: u32, first: bool) {
     let off = clock();
     let queue = if cfg!(feature = "plain-queue") { "a plain table in the place of queue.rs" } else { "queue.rs as it is" };
     println!("ns a request, least of {blocks} blocks, by turns; the Rust with {queue}; two clock readings, {off:.1} ns, are taken off");
@@ -147,6 +148,9 @@ fn table(blocks: u32) {
     rows.extend([1, 2, 4, 8, 16, 32, 48].map(|packets| (4096, packets, 1)));
     rows.extend([2, 4, 8, 16, 32, 63].map(|depth| (4096, 64, depth)));
     rows.push((4096, 62, 64));
+    if first {
+        rows.truncate(1);
+    }
     for (slots, packets, depth) in rows {
         let times = row(slots, packets, depth, blocks, off);
         for (name, [submit, events, reclaim]) in &times {
@@ -176,7 +180,8 @@ fn main() {
                 lane.once();
             }
         }
-        Some(blocks) => table(blocks.parse().expect("a number of blocks")),
-        None => table(200),
+        Some("table") => table(number(2) as u32, false),
+        Some("first") => table(number(2) as u32, true),
+        _ => panic!("table, first or count"),
     }
 }

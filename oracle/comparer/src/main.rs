@@ -2,12 +2,14 @@
 //!
 //!     comparer --drive PROGRAM [--calls N] [--seed N] [--seconds N] [--without NAME,..] [--first] [--keep FOLDER] [--random]
 //!     comparer --sample N --seed N --keep FOLDER        writes sessions and the Rust's answers to them, to be replayed with no Rust at hand
+//!     comparer --drive PROGRAM --damaged N [--seed N]   N inputs with a damaged line, each a run of its own
 //!     comparer --names                                  the exceptions
 //!
 //! First every short session out of a list (exhaustive.rs), then random ones (random.rs), until N calls are made or the seconds are over.
 //! `--without` switches exceptions off (`all`: every one). `--first` ends the run at the first difference. `--random` leaves the short
 //! ones out. `--session`: PROGRAM is document 01's session program. A difference is made small and kept in FOLDER, with both outputs. The last line ends in ' 0 differ' where nothing differs.
 mod chance;
+mod damage;
 mod exhaustive;
 mod ours;
 mod random;
@@ -38,6 +40,7 @@ struct Settings {
     random: bool,
     session: bool,
     sample: Option<u64>,
+    damaged: Option<u64>,
     keep: PathBuf,
 }
 
@@ -57,6 +60,7 @@ fn settings() -> Settings {
         random: false,
         session: false,
         sample: None,
+        damaged: None,
         keep: PathBuf::from("target/differs"),
     };
     let mut words = env::args().skip(1);
@@ -69,6 +73,7 @@ fn settings() -> Settings {
             "--seed" => s.seed = number(next()),
             "--seconds" => s.seconds = Some(number(next())),
             "--sample" => s.sample = Some(number(next())),
+            "--damaged" => s.damaged = Some(number(next())),
             "--keep" => s.keep = PathBuf::from(next()),
             "--first" => s.first = true,
             "--random" => s.random = true,
@@ -129,11 +134,11 @@ const BATCH_CALLS: u64 = 20_000;
 fn batch(source: &mut Source, script: &mut Script, ours: &Ours, calls: u64) -> Batch {
     let mut sessions = Vec::new();
     let mut written = 0;
-    let (mut input, mut want, mut lines) = (String::new(), Vec::new(), 0);
+    let (mut input, mut want, mut lines) = (Vec::new(), Vec::new(), 0);
     while written < calls.min(BATCH_CALLS) {
         let session = source.write(script);
         written += session.calls;
-        input.push_str(&session.text());
+        input.extend_from_slice(session.text().as_bytes());
         want.extend_from_slice(&session.out);
         lines += session.lines.len();
         let (panicked, made) = (session.panicked, session.made);
@@ -142,12 +147,12 @@ fn batch(source: &mut Source, script: &mut Script, ours: &Ours, calls: u64) -> B
             break;
         }
         if made {
-            input.push_str("new\n");
+            input.extend_from_slice(b"new\n");
             lines += 1;
         }
     }
     if !source.own {
-        input.push_str("ring\n");
+        input.extend_from_slice(b"ring\n");
         want.extend_from_slice(format!("bad\t{}\n", lines + 1).as_bytes());
     }
     let run = ours.start(input);
@@ -165,9 +170,13 @@ struct Found {
 
 impl Found {
     fn differs(&self, lines: &[String]) -> bool {
-        match script::replay(lines, &self.settings.exceptions, self.settings.session) {
+        self.differs_on(script::joined(lines))
+    }
+
+    fn differs_on(&self, input: Vec<u8>) -> bool {
+        match script::replay(&input, &self.settings.exceptions, self.settings.session) {
             None => false,
-            Some(rust) => rust != self.ours.run(lines),
+            Some(rust) => rust != self.ours.run(input),
         }
     }
 
@@ -208,22 +217,45 @@ impl Found {
     fn keep(&self, lines: Vec<String>) {
         println!("a session of {} lines differs, after {} calls; it is made small", lines.len(), self.calls);
         let small = shrink::shrink(lines, |lines| self.differs(lines));
-        let rust = script::replay(&small, &self.settings.exceptions, self.settings.session).unwrap_or_default();
-        let ours = self.ours.run(&small);
+        self.show(script::joined(&small));
+    }
+
+    fn show(&self, input: Vec<u8>) {
+        let rust = script::replay(&input, &self.settings.exceptions, self.settings.session).unwrap_or_default();
+        let ours = self.ours.run(input.clone());
         let folder = &self.settings.keep;
         let name = format!("{}-{}", self.settings.seed, self.differ);
-        let text = small.join("\n") + "\n";
         fs::create_dir_all(folder).expect("a folder for what differs");
-        for (end, bytes) in [("in", text.as_bytes()), ("rust", &rust), ("ours", &ours)] {
+        for (end, bytes) in [("in", &input), ("rust", &rust), ("ours", &ours)] {
             fs::write(folder.join(format!("{name}.{end}")), bytes).expect("a file for what differs");
         }
         println!("{}", folder.join(format!("{name}.in")).display());
-        print!("{text}");
+        print!("{}", String::from_utf8_lossy(&input));
         println!("the Rust writes");
         print!("{}", String::from_utf8_lossy(&rust));
         println!("we write");
         print!("{}", String::from_utf8_lossy(&ours));
     }
+}
+
+/// Inputs with a damaged line; each is a run of its own.
+fn damaged(found: &mut Found, script: &mut Script, count: u64) -> ! {
+    let seed = found.settings.seed;
+    let mut bad = 0;
+    for number in 0..count {
+        let seed = seed.wrapping_mul(0x1_0000_0001).wrapping_add(number);
+        let input = damage::write(script, seed, found.settings.session);
+        let rust = script::replay(&input, &found.settings.exceptions, found.settings.session).unwrap_or_default();
+        bad += u64::from(rust.split(|byte| *byte == b'\n').any(|line| line.starts_with(b"bad")));
+        if found.differs_on(input.clone()) {
+            found.differ += 1;
+            if found.differ <= 3 {
+                found.show(input);
+            }
+        }
+    }
+    println!("seed {seed}: {count} damaged inputs, {bad} of them bad, {} differ", found.differ);
+    exit(if found.differ == 0 { 0 } else { 1 })
 }
 
 fn main() {
@@ -257,6 +289,9 @@ fn main() {
         calls: 0,
         sessions: 0,
     };
+    if let Some(count) = found.settings.damaged {
+        damaged(&mut found, &mut script, count);
+    }
     let mut said = Instant::now();
     let mut under_way = batch(&mut source, &mut script, &ours, calls);
     let mut written: u64 = under_way.sessions.iter().map(|session| session.calls).sum();

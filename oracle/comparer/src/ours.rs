@@ -22,7 +22,7 @@ pub struct Run {
 const PATIENCE: Duration = Duration::from_secs(120);
 
 impl Ours {
-    pub fn start(&self, input: String) -> Run {
+    pub fn start(&self, input: Vec<u8>) -> Run {
         let mut child = Command::new(&self.program)
             .stdin(Stdio::piped())
             .stdout(Stdio::piped())
@@ -32,7 +32,7 @@ impl Ours {
         let mut to = child.stdin.take().expect("a pipe");
         thread::spawn(move || {
             // a program that ends early leaves its input
-            let _ = to.write_all(input.as_bytes());
+            let _ = to.write_all(&input);
         });
         let mut from = child.stdout.take().expect("a pipe");
         let (send, out) = channel();
@@ -44,9 +44,7 @@ impl Ours {
         Run { child, out }
     }
 
-    pub fn run(&self, lines: &[String]) -> Vec<u8> {
-        let mut input = lines.join("\n");
-        input.push('\n');
+    pub fn run(&self, input: Vec<u8>) -> Vec<u8> {
         self.start(input).end()
     }
 }

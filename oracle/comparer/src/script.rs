@@ -108,16 +108,19 @@ impl Script {
     }
 }
 
-/// What the Rust writes for these lines, from nothing.
-pub fn replay(lines: &[String], exceptions: &Exceptions, session: bool) -> Option<Vec<u8>> {
+/// What the Rust writes for this input, from nothing; nothing where it cannot be compared.
+pub fn replay(input: &[u8], exceptions: &Exceptions, session: bool) -> Option<Vec<u8>> {
     catch_unwind(AssertUnwindSafe(|| {
         let mut drive = Drive::new(exceptions.clone(), session);
-        for line in lines {
-            if !drive.line(line.as_bytes()) {
-                break;
-            }
-        }
-        if drive.forged { None } else { Some(drive.out) }
+        drive.input(input);
+        if drive.is_comparable() { Some(drive.out) } else { None }
     }))
     .unwrap_or(Some(b"the Rust panicked\n".to_vec()))
+}
+
+/// Lines as an input.
+pub fn joined(lines: &[String]) -> Vec<u8> {
+    let mut input = lines.join("\n").into_bytes();
+    input.push(b'\n');
+    input
 }

@@ -158,6 +158,24 @@ impl Drive {
         }
     }
 
+    /// A whole input: its lines, to the end or a bad one.
+    pub fn input(&mut self, bytes: &[u8]) {
+        let mut lines: Vec<&[u8]> = bytes.split(|byte| *byte == b'\n').collect();
+        if lines.last().is_some_and(|line| line.is_empty()) {
+            lines.pop();
+        }
+        for line in lines {
+            if !self.line(line) {
+                return;
+            }
+        }
+    }
+
+    /// Whether all that was written is the Rust's, or played by a rule that is named: no word was forged, no buffer too long for Rust named.
+    pub fn is_comparable(&self) -> bool {
+        !self.forged && self.dock.as_ref().is_none_or(|dock| !dock.untried)
+    }
+
     /// One line of input. False where it is `bad`, which ends the run.
     pub fn line(&mut self, line: &[u8]) -> bool {
         self.lines += 1;
@@ -172,6 +190,7 @@ impl Drive {
     /// Forgets the ring and the controller.
     pub fn forget(&mut self) {
         if let Some(dock) = self.dock.take() {
+            self.forged |= dock.untried;
             assert!(
                 self.forged_ring || dock.agrees(),
                 "the ring has not the words of its stores"
@@ -179,7 +198,6 @@ impl Drive {
             dock.give_back(&mut self.commands);
         }
         self.controller = (0, true);
-        self.forged = false;
         self.forged_ring = false;
     }
 

@@ -33,14 +33,9 @@ fn main() -> io::Result<()> {
     let mut drive = Drive::new(exceptions, session);
     let mut bytes = Vec::new();
     io::stdin().read_to_end(&mut bytes)?;
-    let mut lines: Vec<&[u8]> = bytes.split(|byte| *byte == b'\n').collect();
-    if lines.last().is_some_and(|line| line.is_empty()) {
-        lines.pop();
-    }
-    for line in lines {
-        if !drive.line(line) {
-            break;
-        }
+    drive.input(&bytes);
+    if !drive.is_comparable() {
+        eprintln!("drive: words were forged, or a buffer named, that the Rust has no equal of: this is not comparable");
     }
     io::stdout().write_all(&drive.out)
 }
