@@ -35,8 +35,7 @@ fn main() {
     println!("cargo::rustc-cfg=kmod");
     let folder = match env::var("CRAB_USB_SRC") {
         Ok(folder) => PathBuf::from(folder),
-        Err(_) => Path::new(&env::var("CARGO_MANIFEST_DIR").expect("cargo sets it"))
-            .join("../../../shared/docs/src"),
+        Err(_) => Path::new(&env::var("CARGO_MANIFEST_DIR").expect("cargo sets it")).join("../../../shared/docs/src"),
     };
     for (variable, name) in FILES {
         let path = find(&folder, name);

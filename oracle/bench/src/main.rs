@@ -66,7 +66,8 @@ impl Lane {
         for _ in 0..self.packets {
             let address = BASE + 16 * self.place as u64;
             let w3 = 32 << 10 | u32::from(DCI) << 16 | u32::from(SLOT) << 24;
-            self.side.hand_over(black_box([address as u32, (address >> 32) as u32, 1 << 24, w3]));
+            self.side
+                .hand_over(black_box([address as u32, (address >> 32) as u32, 1 << 24, w3]));
             self.place = if self.place == self.slots - 2 { 0 } else { self.place + 1 };
         }
         self.waiting.push_back(id);
@@ -139,7 +140,11 @@ fn row(slots: usize, packets: usize, depth: usize, blocks: u32, off: f64) -> Vec
 
 fn table(blocks: u32, first: bool) {
     let off = clock();
-    let queue = if cfg!(feature = "plain-queue") { "a plain table in the place of queue.rs" } else { "queue.rs as it is" };
+    let queue = if cfg!(feature = "plain-queue") {
+        "a plain table in the place of queue.rs"
+    } else {
+        "queue.rs as it is"
+    };
     println!("ns a request, least of {blocks} blocks, by turns; the Rust with {queue}; two clock readings, {off:.1} ns, are taken off");
     println!("| L | packets | in flight | side | submit | hand over | reclaim | whole | submit a packet |");
     println!("|---|---|---|---|---|---|---|---|---|");
@@ -160,7 +165,12 @@ fn table(blocks: u32, first: bool) {
         if let [(_, rust), (_, ours)] = &times[..] {
             let part = |at: usize| ours[at] / rust[at];
             let whole = ours.iter().sum::<f64>() / rust.iter().sum::<f64>();
-            println!("| {slots} | {packets} | {depth} | ours / Rust | {:.2} | {:.2} | {:.2} | {whole:.2} | |", part(0), part(1), part(2));
+            println!(
+                "| {slots} | {packets} | {depth} | ours / Rust | {:.2} | {:.2} | {:.2} | {whole:.2} | |",
+                part(0),
+                part(1),
+                part(2)
+            );
         }
     }
 }

@@ -215,7 +215,11 @@ impl Found {
     }
 
     fn keep(&self, lines: Vec<String>) {
-        println!("a session of {} lines differs, after {} calls; it is made small", lines.len(), self.calls);
+        println!(
+            "a session of {} lines differs, after {} calls; it is made small",
+            lines.len(),
+            self.calls
+        );
         let small = shrink::shrink(lines, |lines| self.differs(lines));
         self.show(script::joined(&small));
     }
@@ -301,7 +305,13 @@ fn main() {
         found.take(under_way);
         if said.elapsed() > Duration::from_secs(5) {
             said = Instant::now();
-            println!("{} calls, {} sessions, {} differ; {:.0} s", found.calls, found.sessions, found.differ, began.elapsed().as_secs_f64());
+            println!(
+                "{} calls, {} sessions, {} differ; {:.0} s",
+                found.calls,
+                found.sessions,
+                found.differ,
+                began.elapsed().as_secs_f64()
+            );
             let _ = io::stdout().flush();
         }
         match next {
@@ -319,6 +329,9 @@ fn main() {
     }
     let minutes = began.elapsed().as_secs_f64() / 60.0;
     println!("{:.0} calls a minute", found.calls as f64 / minutes);
-    println!("seed {seed}: {} calls in {} sessions, {} differ", found.calls, found.sessions, found.differ);
+    println!(
+        "seed {seed}: {} calls in {} sessions, {} differ",
+        found.calls, found.sessions, found.differ
+    );
     exit(if found.differ == 0 { 0 } else { 1 });
 }

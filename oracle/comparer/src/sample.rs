@@ -66,7 +66,13 @@ pub fn write(least: u64, seed: u64, folder: &Path) {
     for what in &seen {
         *counts.entry(what.split(' ').next().expect("a word")).or_default() += 1;
     }
-    println!("{} sessions, {} lines, {calls} calls, {} lines of answers, {} things shown", kept.len(), input.lines().count(), want.split(|b| *b == b'\n').count() - 1, seen.len());
+    println!(
+        "{} sessions, {} lines, {calls} calls, {} lines of answers, {} things shown",
+        kept.len(),
+        input.lines().count(),
+        want.split(|b| *b == b'\n').count() - 1,
+        seen.len()
+    );
     for (word, count) in counts {
         println!("{word}\t{count}");
     }
@@ -120,7 +126,16 @@ fn shows(session: &Session) -> BTreeSet<String> {
                 _ => 257,
             };
             shown.insert(format!("slots {size}"));
-            shown.insert(format!("base {}", if line[2] == "0" { "0" } else if line[2].len() == 16 { "high" } else { "low" }));
+            shown.insert(format!(
+                "base {}",
+                if line[2] == "0" {
+                    "0"
+                } else if line[2].len() == 16 {
+                    "high"
+                } else {
+                    "low"
+                }
+            ));
             continue;
         }
         loop {
@@ -155,7 +170,11 @@ fn shows(session: &Session) -> BTreeSet<String> {
                 }
                 "no" => {
                     let kind = kinds.get(*line.get(1).unwrap_or(&"")).cloned().unwrap_or_default();
-                    let of = if word == "reclaim" || word == "cancel" { kind } else { request.clone() };
+                    let of = if word == "reclaim" || word == "cancel" {
+                        kind
+                    } else {
+                        request.clone()
+                    };
                     shown.insert(format!("{word} {of} no {} {}", answer[1], answer.get(2).unwrap_or(&"")));
                     break;
                 }
@@ -191,7 +210,13 @@ fn shows(session: &Session) -> BTreeSet<String> {
         let link = stores.iter().position(|store| kind_of(store[5]) == 6);
         if let Some(link) = link {
             // where in its TD the link came, and with which cycle
-            let before = if link == 1 { "first" } else if link + 1 == stores.len() { "last" } else { "middle" };
+            let before = if link == 1 {
+                "first"
+            } else if link + 1 == stores.len() {
+                "last"
+            } else {
+                "middle"
+            };
             let cycle = &stores[link][5][7..];
             shown.insert(format!("wrap {word} {request} {before} of {} cycle {cycle}", stores.len().min(6)));
         }

@@ -87,8 +87,7 @@ impl<'a> Fields<'a> {
                 length: self.decimal(u64::MAX)?,
             },
             b"iso" => {
-                let (incoming, address, length) =
-                    (self.flag()?, self.hex(u64::MAX)?, self.decimal(u64::MAX)?);
+                let (incoming, address, length) = (self.flag()?, self.hex(u64::MAX)?, self.decimal(u64::MAX)?);
                 let mut packets = Vec::new();
                 for text in self.left.by_ref() {
                     packets.push(Self::number(text, 10, u64::MAX)?);
@@ -191,10 +190,7 @@ impl Drive {
     pub fn forget(&mut self) {
         if let Some(dock) = self.dock.take() {
             self.forged |= dock.untried;
-            assert!(
-                self.forged_ring || dock.agrees(),
-                "the ring has not the words of its stores"
-            );
+            assert!(self.forged_ring || dock.agrees(), "the ring has not the words of its stores");
             dock.give_back(&mut self.commands);
         }
         self.controller = (0, true);
@@ -359,11 +355,7 @@ impl Drive {
     }
 
     fn ring(&mut self, mut fields: Fields<'_>) -> Result<(), Bad> {
-        let (l, base, mask) = (
-            fields.decimal(u64::MAX)?,
-            fields.hex(u64::MAX)?,
-            fields.hex(u64::MAX)?,
-        );
+        let (l, base, mask) = (fields.decimal(u64::MAX)?, fields.hex(u64::MAX)?, fields.hex(u64::MAX)?);
         let (slot, dci) = (fields.decimal(0xff)? as u8, fields.decimal(0xff)? as u8);
         fields.end()?;
         if self.dock.is_some() {
@@ -401,11 +393,7 @@ impl Drive {
     }
 
     /// A store's lines; true where stores are left.
-    fn store(
-        &mut self,
-        answer: Result<(usize, [u32; 4], Option<Submitted>), No>,
-        shows: bool,
-    ) -> bool {
+    fn store(&mut self, answer: Result<(usize, [u32; 4], Option<Submitted>), No>, shows: bool) -> bool {
         match answer {
             Ok((slot, words, last)) => {
                 if shows {
@@ -441,8 +429,7 @@ impl Drive {
         let (dock, exceptions) = self.dock();
         match dock.reclaim(id, exceptions) {
             Ok(done) => {
-                let mut text: String =
-                    format!("done\t{id}\t{}\t{}", done.length, u8::from(done.yes));
+                let mut text: String = format!("done\t{id}\t{}\t{}", done.length, u8::from(done.yes));
                 for packet in done.packets {
                     text.push_str(&format!("\t{packet}"));
                 }

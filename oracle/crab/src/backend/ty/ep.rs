@@ -13,10 +13,7 @@ pub type EndpointResetFuture = Pin<Box<dyn Future<Output = Result<(), TransferEr
 
 pub trait EndpointOp {
     fn submit_request(&mut self, request: TransferRequest) -> Result<RequestId, TransferError>;
-    fn reclaim_request(
-        &mut self,
-        id: RequestId,
-    ) -> Option<Result<TransferCompletion, TransferError>>;
+    fn reclaim_request(&mut self, id: RequestId) -> Option<Result<TransferCompletion, TransferError>>;
     fn register_waker(&self, id: RequestId, cx: &mut Context<'_>);
     fn cancel_request(&mut self, id: RequestId) -> Result<(), TransferError>;
     fn reset(&mut self) -> EndpointResetFuture;

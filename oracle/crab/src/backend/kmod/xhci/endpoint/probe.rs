@@ -65,8 +65,7 @@ pub fn is_in_flight(endpoint: &Endpoint, id: u64) -> bool {
 /// Whether the Rust would answer QueueFull to this request, by its own two tests.
 pub fn would_refuse_as_full(endpoint: &Endpoint, request: &TransferRequest) -> bool {
     let required = Endpoint::required_trbs_for_request(request);
-    endpoint.reset_in_progress.load(Ordering::Acquire)
-        || endpoint.ensure_ring_capacity(required).is_err()
+    endpoint.reset_in_progress.load(Ordering::Acquire) || endpoint.ensure_ring_capacity(required).is_err()
 }
 
 pub fn take_stores(endpoint: &mut Endpoint) -> Vec<Store> {
