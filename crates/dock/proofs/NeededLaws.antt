@@ -110,7 +110,7 @@ module _ (slots : ℕ) (finished other : List ℕ) (v : Record) (number : ℕ) w
 -- ---- the places that are looked at
 
 -- A request's first TRB is in its own place.
-first-place : (slots p : ℕ) → p + 1 < slots → p ≡ placeOf slots p 0
+pub first-place : (slots p : ℕ) → p + 1 < slots → p ≡ placeOf slots p 0
 unfolding placeOf
 first-place slots p low = sym (mod-eq-of-lt (omega arith) ∙ omega arith)
 

@@ -120,7 +120,7 @@ module _ (number : ℕ) (inside : number < recordCount) where
   put-is-long l k p long = omega (arith, put-long l number k p)
 
   -- Packets from k on stay,
-  close-behind : (k : ℕ) (l : List ℕ) (j : ℕ) → k ≤ packetCount → k ≤ j → packetAt (closeBelow k l number) number j ≡ packetAt l number j
+  pub close-behind : (k : ℕ) (l : List ℕ) (j : ℕ) → k ≤ packetCount → k ≤ j → packetAt (closeBelow k l number) number j ≡ packetAt l number j
   unfolding closeBelow
   close-behind zero l j small low = refl
   close-behind (suc k) l j small low =

@@ -17,4 +17,5 @@ pub mod Order
 pub mod Grounds
 pub mod Whole
 pub mod Standard
+pub mod Program
 pub mod Example

@@ -1,3 +1,3 @@
--- The laws of the places and of the walk over the packets.
-pub mod PlaceLaws
-pub mod SweepLaws
+-- The laws of a block that is read from its words, and of the total.
+pub mod LoadLaws
+pub mod TotalLaws

@@ -1,4 +1,4 @@
--- What the contracts of `walk` cite beside the definitions of the dock.
+-- What the contracts of `walk` cite beside the definitions of the dock and of `marking`.
 pub mod Flying
-pub mod Turns
+pub mod Loaded
 pub mod Values

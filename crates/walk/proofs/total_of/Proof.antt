@@ -5,7 +5,7 @@ use native.Mathlib.Omega.{arith}
 use denote.Ref.{now}
 use Rattle.dock.specs.Reclaim.{total}
 use Rattle.table.specs.declared.packets.Packet.{Packet}
-use Rattle.walk.proofs.SweepLaws.{actual-small, total-none, total-more}
+use Rattle.walk.proofs.TotalLaws.{actual-small, total-none, total-more}
 use Rattle.walk.proofs.total_of.Statement.{statement}
 use Rattle.walk.proofs.total_of.Tie as tie
 

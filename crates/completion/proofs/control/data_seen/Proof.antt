@@ -2,7 +2,7 @@
 use native.Mathlib.Omega.{arith}
 use borrow.Author.Needs.{needs}
 use borrow.Author.Tests.{eq-eqb, ne-eqb}
-use Rattle.walk.proofs.PlaceLaws.{place-below}
+use Rattle.marking.proofs.PlaceLaws.{place-below}
 use Rattle.completion.proofs.control.data_seen.Statement.{statement}
 use Rattle.completion.proofs.control.data_seen.Tie as tie
 

@@ -1,7 +1,7 @@
 -- `completion::control::status_seen` meets its contract: the status stands one or two places behind the setup. Assumes nothing.
 use native.Mathlib.Omega.{arith}
 use borrow.Author.Needs.{needs}
-use Rattle.walk.proofs.PlaceLaws.{place-below}
+use Rattle.marking.proofs.PlaceLaws.{place-below}
 use Rattle.completion.proofs.control.status_seen.Statement.{statement}
 use Rattle.completion.proofs.control.status_seen.Tie as tie
 

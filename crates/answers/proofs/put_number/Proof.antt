@@ -1,0 +1,16 @@
+-- `put_number` meets its contract. Assumes nothing.
+use mathlib.Core.Path.{_≡_, sym, ap, _∙_}
+use Rattle.lines.proofs.PageLaws.{then}
+use Rattle.answers.specs.Text.{numberLine}
+use borrow.Author.Needs.{needs}
+use Rattle.answers.proofs.put_number.Statement.{statement}
+use Rattle.answers.proofs.put_number.Tie as tie
+
+returns : tie.Need-returns
+unfolding numberLine
+returns c = then _ _ _ (c .before .before .before .before .before .before .before .before .before .before .put-text .ensures) (then _ _ _ (c .before .before .before .before .before .before .put-decimal .ensures) (c .before .before .put-end .ensures))
+
+pub put-number-spec : {M : Type 1} → statement M
+put-number-spec =
+    tie.close
+    (tie.spec (λ c κs. search needs) (λ c κs. search needs) (λ c κs. search needs) (λ c. search needs) returns)

@@ -1,0 +1,28 @@
+-- `put_outcome` meets its contract. Assumes nothing.
+use mathlib.Core.Path.{_≡_, sym, ap, _∙_}
+use Rattle.lines.proofs.PageLaws.{then}
+use Rattle.answers.specs.Text.{outcomeLine}
+use borrow.Author.Needs.{needs}
+use Rattle.answers.proofs.put_outcome.Statement.{statement}
+use Rattle.answers.proofs.put_outcome.Tie as tie
+
+returns : tie.Need-returns
+unfolding outcomeLine
+returns c = rw (c .before .before .before .before .enum-told .given .1) (c .before .before .put-name .ensures)
+
+returns-2 : tie.Need-returns-2
+unfolding outcomeLine
+returns-2 c = rw (c .before .before .before .before .before .answer .given .1) (c .before .before .put-no .ensures)
+
+pub put-outcome-spec : {M : Type 1} → statement M
+put-outcome-spec =
+    tie.close
+    (tie.spec
+    (λ c. search needs)
+    (λ c κs. search needs)
+    (λ c. search needs)
+    (λ c κs. search needs)
+    (λ c. search needs)
+    returns
+    (λ c. search needs)
+    returns-2)

@@ -1,0 +1,58 @@
+-- `put_reclaimed` meets its contract. Assumes nothing.
+use Rattle.answers.specs.Text.{reclaimedLine}
+use borrow.Author.Needs.{needs}
+use Rattle.answers.proofs.put_reclaimed.Statement.{statement}
+use Rattle.answers.proofs.put_reclaimed.Tie as tie
+
+returns : tie.Need-returns
+unfolding reclaimedLine
+returns c = rw (c .before .before .before .before .before .answer .given .1) (c .before .before .put-done .ensures)
+
+returns-2 : tie.Need-returns-2
+unfolding reclaimedLine
+returns-2 c = rw (c .before .before .before .before .enum-told .given .1) (c .before .before .put-no .ensures)
+
+returns-3 : tie.Need-returns-3
+unfolding reclaimedLine
+returns-3 c = rw (c .before .before .before .before .before .answer2 .given .1) (c .before .before .put-failed .ensures)
+
+returns-4 : tie.Need-returns-4
+unfolding reclaimedLine
+returns-4 c = rw (c .before .before .before .before .enum-told2 .given .1) (c .before .before .put-no2 .ensures)
+
+returns-5 : tie.Need-returns-5
+unfolding reclaimedLine
+returns-5 c = rw (c .before .before .before .before .enum-told3 .given .1) (c .before .before .put-no3 .ensures)
+
+returns-6 : tie.Need-returns-6
+unfolding reclaimedLine
+returns-6 c = rw (c .before .before .before .before .before .answer3 .given .1) (c .before .before .put-no4 .ensures)
+
+pub put-reclaimed-spec : {M : Type 1} → statement M
+put-reclaimed-spec =
+    tie.close
+    (tie.spec
+    (λ c. search needs)
+    (λ c κs. search needs)
+    (λ c. search needs)
+    (λ c κs. search needs)
+    (λ c. search needs)
+    (λ c κs. search needs)
+    (λ c. search needs)
+    (λ c κs. search needs)
+    (λ c. search needs)
+    (λ c κs. search needs)
+    (λ c. search needs)
+    (λ c κs. search needs)
+    (λ c. search needs)
+    returns
+    (λ c. search needs)
+    returns-2
+    (λ c. search needs)
+    returns-3
+    (λ c. search needs)
+    returns-4
+    (λ c. search needs)
+    returns-5
+    (λ c. search needs)
+    returns-6)

@@ -1,0 +1,23 @@
+-- `put_stands` meets its contract. Assumes nothing.
+use mathlib.Core.Path.{_≡_, sym, ap, _∙_}
+use Rattle.lines.proofs.PageLaws.{then}
+use Rattle.answers.specs.Text.{standsLine}
+use borrow.Author.Needs.{needs}
+use Rattle.answers.proofs.put_stands.Statement.{statement}
+use Rattle.answers.proofs.put_stands.Tie as tie
+
+returns : tie.Need-returns
+unfolding standsLine
+returns c = then _ _ _ (c .before .before .before .before .before .before .before .before .before .before .before .before .before .before .put-text .ensures) (then _ _ _ (c .before .before .before .before .before .before .before .before .before .before .put-decimal .ensures) (then _ _ _ (c .before .before .before .before .before .before .put-flag .ensures) (c .before .before .put-end .ensures)))
+
+pub put-stands-spec : {M : Type 1} → statement M
+put-stands-spec =
+    tie.close
+    (tie.spec
+    (λ c. search needs)
+    (λ c κs. search needs)
+    (λ c κs. search needs)
+    (λ c κs. search needs)
+    (λ c κs. search needs)
+    (λ c. search needs)
+    returns)

@@ -1,0 +1,2 @@
+-- The lines that answers are written as.
+pub mod Text

@@ -1,0 +1,2 @@
+-- What the contracts of `controller` cite.
+pub mod Rule

@@ -1,0 +1,6 @@
+-- Laws of the format: numbers, pages, and what the reader comes to.
+pub mod PickLaws
+pub mod NumberLaws
+pub mod PageLaws
+pub mod ScanLaws
+pub mod TextLaws

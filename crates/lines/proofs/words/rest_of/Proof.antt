@@ -1,0 +1,17 @@
+-- `rest_of` meets its contract. Assumes nothing.
+use mathlib.Core.Path.{refl, sym, _∙_}
+use borrow.Author.Tests.{eq-eqb, ne-eqb, lt-ltb, le-ltb, le-leb, lt-leb}
+use Rattle.lines.specs.Words.{restOf}
+use Rattle.lines.proofs.words.rest_of.Statement.{statement}
+use Rattle.lines.proofs.words.rest_of.Tie as tie
+
+returns : tie.Need-returns
+unfolding restOf
+returns c = simp (eq-eqb _ _ (c .if1 .taken))
+
+returns-2 : tie.Need-returns-2
+unfolding restOf
+returns-2 c = simp (ne-eqb _ _ (c .if1 .left))
+
+pub rest-of-spec : {M : Type 1} → statement M
+rest-of-spec = tie.close (tie.spec returns returns-2)

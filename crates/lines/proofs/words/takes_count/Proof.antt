@@ -1,0 +1,18 @@
+-- `takes_count` meets its contract. Assumes nothing.
+use mathlib.Core.Path.{refl, sym, _∙_}
+use borrow.Author.Tests.{eq-eqb, ne-eqb, lt-ltb, le-ltb, le-leb, lt-leb}
+use Rattle.lines.specs.Words.{takesCount}
+use borrow.Author.Needs.{needs}
+use Rattle.lines.proofs.words.takes_count.Statement.{statement}
+use Rattle.lines.proofs.words.takes_count.Tie as tie
+
+returns : tie.Need-returns
+unfolding takesCount
+returns c = simp (eq-eqb _ _ (c .if1 .taken))
+
+returns-2 : tie.Need-returns-2
+unfolding takesCount
+returns-2 c = simp (c .either .ensures, ne-eqb _ _ (c .before .if1 .left))
+
+pub takes-count-spec : {M : Type 1} → statement M
+takes-count-spec = tie.close (tie.spec returns (λ c κs. search needs) returns-2)

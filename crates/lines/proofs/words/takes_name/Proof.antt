@@ -1,0 +1,18 @@
+-- `takes_name` meets its contract. Assumes nothing.
+use mathlib.Core.Path.{refl, sym, _∙_}
+use borrow.Author.Tests.{eq-eqb, ne-eqb, lt-ltb, le-ltb, le-leb, lt-leb}
+use Rattle.lines.specs.Words.{takesName}
+use borrow.Author.Needs.{needs}
+use Rattle.lines.proofs.words.takes_name.Statement.{statement}
+use Rattle.lines.proofs.words.takes_name.Tie as tie
+
+returns : tie.Need-returns
+unfolding takesName
+returns c = simp (eq-eqb _ _ (c .if1 .taken))
+
+returns-2 : tie.Need-returns-2
+unfolding takesName
+returns-2 c = simp (c .either .ensures, ne-eqb _ _ (c .before .if1 .left))
+
+pub takes-name-spec : {M : Type 1} → statement M
+takes-name-spec = tie.close (tie.spec returns (λ c κs. search needs) returns-2)

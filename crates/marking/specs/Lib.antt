@@ -1,0 +1,3 @@
+-- What the contracts of `marking` cite beside the definitions of the dock.
+pub mod Marking
+pub mod Words
