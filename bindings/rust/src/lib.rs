@@ -33,6 +33,9 @@
 #![no_std]
 #![deny(missing_docs, unsafe_code)]
 
+#[cfg(not(target_pointer_width = "64"))]
+compile_error!("the library counts in 64 bits");
+
 #[allow(unsafe_code)]
 pub mod calls;
 #[allow(unsafe_code)]
