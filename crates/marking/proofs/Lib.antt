@@ -2,6 +2,7 @@
 pub mod FitLaws
 pub mod KeepLaws
 pub mod LentArray
+pub mod Machine
 pub mod MirrorLaws
 pub mod PlaceLaws
 pub mod TurnLaws

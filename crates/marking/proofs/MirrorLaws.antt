@@ -152,8 +152,7 @@ module _ (slots : ℕ) (finished : List ℕ) (v : Record) (number : ℕ) (inside
           let word = clear-word b in
           let read : packetAt (words ps) number i ≡ one = kept-is number inside l long (v .count) few (held ps) i under word in
           let clear : packetAt l number i .marked ≡ false = sym (ap (λ (x : Packet). x .marked) word) ∙ b in
-          let open-word : packetAt (words ps) number i .marked ≡ false = ap (λ (x : Packet). x .marked) read ∙ b in
-          (
+          let open-word : packetAt (words ps) number i .marked ≡ false = ap (λ (x : Packet). x .marked) read ∙ b in (
             words-put (v .count) ps m i under (counted one 0) clear refl ∙ ap (λ (x : Packet). putPacket (words ps) number i (counted x 0)) (sym read) ∙ rw open-word,
             set-mirror (v .count) ps m i under (counted one 0) clear refl (v .count) (omega arith) under,
           )
