@@ -264,12 +264,12 @@ fn damaged(found: &mut Found, script: &mut Script, count: u64) -> ! {
 
 fn main() {
     let settings = settings();
-    // a panic of the Rust is an answer here, and is shown with its session
-    std::panic::set_hook(Box::new(|_| {}));
     if let Some(count) = settings.sample {
         sample::write(count, settings.seed, &settings.keep);
         return;
     }
+    // a panic of the Rust is an answer here, and is shown with its session
+    std::panic::set_hook(Box::new(|_| {}));
     let Some(program) = settings.drive.clone() else {
         usage("--drive names our program");
     };

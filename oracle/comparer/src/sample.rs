@@ -115,7 +115,7 @@ fn shows(session: &Session) -> BTreeSet<String> {
         if ["new", "nextid", "poke"].contains(&word) {
             continue;
         }
-        if word == "ring" && session.made {
+        if word == "ring" && !answers.clone().next().is_some_and(|next| next.starts_with("no")) {
             let slots: u64 = line[1].parse().expect("a number");
             let size = match slots {
                 0..=8 => slots,
@@ -209,13 +209,13 @@ fn shows(session: &Session) -> BTreeSet<String> {
         }
         let link = stores.iter().position(|store| kind_of(store[5]) == 6);
         if let Some(link) = link {
-            // where in its TD the link came, and with which cycle
-            let before = if link == 1 {
-                "first"
+            // behind which store of its TD the link came, and with which cycle
+            let before = if request == "control" || link == 1 {
+                link.to_string()
             } else if link + 1 == stores.len() {
-                "last"
+                "last".to_string()
             } else {
-                "middle"
+                "middle".to_string()
             };
             let cycle = &stores[link][5][7..];
             shown.insert(format!("wrap {word} {request} {before} of {} cycle {cycle}", stores.len().min(6)));
