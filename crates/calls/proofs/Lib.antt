@@ -1,0 +1,2 @@
+-- Laws of the stores that a request's line makes.
+pub mod StoreLaws

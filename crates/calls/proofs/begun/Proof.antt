@@ -1,0 +1,33 @@
+-- `begun` meets its contract. Assumes nothing.
+use mathlib.Core.Path.{_≡_, ap, _∙_}
+use denote.Ref.{now}
+use Rattle.lines.specs.Page.{Page}
+use Rattle.calls.specs.Calls.{turn, begunBy, begun}
+use borrow.Author.Needs.{needs}
+use Rattle.calls.proofs.begun.Statement.{statement}
+use Rattle.calls.proofs.begun.Tie as tie
+
+same-length : tie.Need-same-length
+same-length c = c .before .before .before .before .before .before .before .before .before .before .start-request .kept .1 .0
+
+same-length-2 : tie.Need-same-length-2
+same-length-2 c = c .before .before .before .before .before .before .before .before .before .before .start-request .kept .1 .1 .0
+
+returns : tie.Need-returns
+unfolding begun
+returns c =
+    let a = c .before .before .before .before .before .before .before .before .before .before .before .before .before .before .before .before .before .args in
+    let s = c .before .before .before .before .before .before .before .before .before .before .start-request in
+    ap (λ (q : Page). (turn (s .result .endpoint) q, s .last .1 .0, s .last .1 .1 .0, q .1)) (c .before .before .before .put-outcome .ensures) ∙ ap (begunBy (a .at, now (a .out))) (s .ensures)
+
+pub begun-spec : {M : Type 1} → statement M
+begun-spec =
+    tie.close
+    (tie.spec
+    (λ c κs. tt)
+    (λ c. search needs)
+    (λ c κs. tt)
+    same-length
+    same-length-2
+    (λ c. c .before .before .before .put-outcome .kept .0)
+    returns)

@@ -1,0 +1,26 @@
+-- `cancelled` meets its contract. Assumes nothing.
+use mathlib.Core.Path.{_≡_, ap, _∙_}
+use denote.Ref.{now}
+use Rattle.lines.specs.Page.{Page}
+use Rattle.calls.specs.Calls.{turn, cancelledBy, cancelled}
+use Rattle.calls.proofs.cancelled.Statement.{statement}
+use Rattle.calls.proofs.cancelled.Tie as tie
+
+same-length : tie.Need-same-length
+same-length c = c .before .before .before .before .before .before .cancel-request .kept .1 .0
+
+returns : tie.Need-returns
+unfolding cancelled
+returns c =
+    let a = c .before .before .before .before .before .before .before .before .before .before .args in
+    ap (λ (q : Page). (turn (a .e) q, c .before .before .before .before .before .before .cancel-request .last .1 .0, q .1)) (c .before .before .put-cut .ensures) ∙ ap (cancelledBy (a .e) (a .id) (a .at, now (a .out))) (c .before .before .before .before .before .before .cancel-request .ensures)
+
+pub cancelled-spec : {M : Type 1} → statement M
+cancelled-spec =
+    tie.close
+    (tie.spec
+    (λ c κs. tt)
+    (λ c κs. tt)
+    same-length
+    (λ c. c .before .before .put-cut .kept .0)
+    returns)

@@ -1,0 +1,24 @@
+-- `ended` meets its contract. Assumes nothing.
+use mathlib.Core.Path.{_≡_, ap, _∙_}
+use denote.Ref.{now}
+use Rattle.lines.specs.Page.{Page}
+use Rattle.calls.specs.Calls.{endedText, told, changedBy, ended}
+use borrow.Author.Needs.{needs}
+use Rattle.calls.proofs.ended.Statement.{statement}
+use Rattle.calls.proofs.ended.Tie as tie
+
+returns : tie.Need-returns
+unfolding ended
+returns c =
+    let a = c .before .before .before .before .before .before .before .before .args in
+    ap (λ (q : Page). told (c .before .before .before .before .before .before .end-reset .result .endpoint) q) (c .before .before .before .put-outcome .ensures) ∙ ap (changedBy endedText (a .at, now (a .out))) (c .before .before .before .before .before .before .end-reset .ensures)
+
+pub ended-spec : {M : Type 1} → statement M
+ended-spec =
+    tie.close
+    (tie.spec
+    (λ c κs. tt)
+    (λ c. search needs)
+    (λ c κs. tt)
+    (λ c. search needs)
+    returns)

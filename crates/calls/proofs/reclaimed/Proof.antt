@@ -1,0 +1,31 @@
+-- `reclaimed` meets its contract. Assumes nothing.
+use mathlib.Core.Path.{_≡_, ap, _∙_}
+use denote.Ref.{now}
+use Rattle.lines.specs.Page.{Page}
+use Rattle.calls.specs.Calls.{turn, reclaimedBy, reclaimed}
+use Rattle.calls.proofs.reclaimed.Statement.{statement}
+use Rattle.calls.proofs.reclaimed.Tie as tie
+
+same-length : tie.Need-same-length
+same-length c = c .before .before .before .before .before .before .before .before .before .before .reclaim-request .kept .1 .1 .0
+
+same-length-2 : tie.Need-same-length-2
+same-length-2 c = c .before .before .before .before .before .before .before .before .before .before .reclaim-request .kept .1 .1 .1 .0
+
+returns : tie.Need-returns
+unfolding reclaimed
+returns c =
+    let a = c .before .before .before .before .before .before .before .before .before .before .before .before .before .before .before .before .before .args in
+    let s = c .before .before .before .before .before .before .before .before .before .before .reclaim-request in
+    ap (λ (q : Page). (turn (s .result .endpoint) q, s .last .1 .1 .0, s .last .1 .1 .1 .0, q .1)) (c .before .before .before .put-reclaimed .ensures) ∙ ap (reclaimedBy (a .at, now (a .out))) (s .ensures)
+
+pub reclaimed-spec : {M : Type 1} → statement M
+reclaimed-spec =
+    tie.close
+    (tie.spec
+    (λ c κs. tt)
+    (λ c κs. tt)
+    same-length
+    same-length-2
+    (λ c. c .before .before .before .put-reclaimed .kept .0)
+    returns)

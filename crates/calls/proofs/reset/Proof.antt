@@ -1,0 +1,23 @@
+-- `reset` meets its contract. Assumes nothing.
+use mathlib.Core.Path.{_≡_, ap, _∙_}
+use denote.Ref.{now}
+use Rattle.lines.specs.Page.{Page}
+use Rattle.calls.specs.Calls.{told, resetBy, reset}
+use borrow.Author.Needs.{needs}
+use Rattle.calls.proofs.reset.Statement.{statement}
+use Rattle.calls.proofs.reset.Tie as tie
+
+returns : tie.Need-returns
+unfolding reset
+returns c =
+    let a = c .before .before .before .before .before .before .before .before .args in
+    ap (λ (q : Page). told (c .before .before .before .before .before .begin-reset .result .endpoint) q) (c .before .before .before .put-resetting .ensures) ∙ ap (resetBy (a .at, now (a .out))) (c .before .before .before .before .before .begin-reset .ensures)
+
+pub reset-spec : {M : Type 1} → statement M
+reset-spec =
+    tie.close
+    (tie.spec
+    (λ c κs. tt)
+    (λ c κs. tt)
+    (λ c. search needs)
+    returns)

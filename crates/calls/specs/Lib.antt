@@ -1,0 +1,3 @@
+-- What the calls that lines make do and write.
+pub mod Values
+pub mod Calls

@@ -1,0 +1,2 @@
+-- Laws of the controller's steps.
+pub mod WalkLaws

@@ -1,0 +1,25 @@
+-- `is_step` meets its contract. Assumes nothing.
+use borrow.Author.Tests.{eq-eqb, ne-eqb, not-true, not-false}
+use Rattle.console.specs.Serve.{isStep}
+use Rattle.console.proofs.serve.is_step.Statement.{statement}
+use Rattle.console.proofs.serve.is_step.Tie as tie
+
+returns : tie.Need-returns
+unfolding isStep
+returns c = rw (not-true (c .before .before .args .r .good) (c .if1 .taken))
+
+returns-2 : tie.Need-returns-2
+unfolding isStep
+returns-2 c = rw (not-false (c .before .before .before .before .args .r .good) (c .before .before .if1 .left), ne-eqb _ _ (c .if2 .taken))
+
+returns-3 : tie.Need-returns-3
+unfolding isStep
+returns-3 c = rw (not-false (c .before .before .before .before .before .args .r .good) (c .before .before .before .if1 .left), eq-eqb _ _ (c .before .if2 .left))
+
+pub is-step-spec : {M : Type 1} → statement M
+is-step-spec =
+    tie.close
+    (tie.spec
+    returns
+    returns-2
+    returns-3)

@@ -1,0 +1,91 @@
+-- `serve_alone` meets its contract. Assumes nothing.
+use mathlib.Core.Path.{_≡_, sym, ap, _∙_}
+use denote.Ref.{now}
+use borrow.Author.Tests.{eq-eqb, ne-eqb, lt-ltb, le-ltb}
+use Prim.Native.Nat.{ℕ}
+use mathlib.Core.List.{List}
+use Rattle.calls.specs.declared.Turn.{Turn}
+use Rattle.calls.specs.declared.StoreTurn.{StoreTurn}
+use Rattle.calls.specs.declared.Next.the-variants.{On}
+use Rattle.console.specs.Serve.{leaves, serveAlone}
+use borrow.Author.Needs.{needs}
+use Rattle.console.proofs.serve.serve_alone.Statement.{statement}
+use Rattle.console.proofs.serve.serve_alone.Tie as tie
+
+same-length : tie.Need-same-length
+same-length c = c .before .before .before .before .before .before .before .stored .kept .1 .0
+
+same-length-2 : tie.Need-same-length-2
+same-length-2 c = c .before .before .before .before .before .before .before .stored .kept .1 .1 .0
+
+same-length-5 : tie.Need-same-length-5
+same-length-5 c = c .before .before .before .before .before .before .before .stored .kept .1 .1 .1 .1 .1 .0
+
+returns : tie.Need-returns
+unfolding serveAlone
+returns c =
+    let a = c .before .before .before .before .before .before .before .before .before .before .before .before .before .before .before .before .before .before .before .before .args in
+    rw (eq-eqb _ _ (c .before .before .before .before .before .before .before .before .before .before .before .before .before .if1 .taken)) (ap (λ (t : StoreTurn × List ℕ × List ℕ × List ℕ). (leaves (t .0 .e) (t .0 .at) On, t .1, t .2, now (a .records), now (a .packets), t .3)) (c .before .before .before .before .before .before .before .stored .ensures))
+
+same-length-7 : tie.Need-same-length-7
+same-length-7 c = c .before .before .before .before .serve-calls .kept .1 .1 .1 .1 .0
+
+returns-2 : tie.Need-returns-2
+unfolding serveAlone
+returns-2 c =
+    let a = c .before .before .before .before .before .before .before .before .before .before .before .before .before .before .before .before .args in
+    rw (ne-eqb _ _ (c .before .before .before .before .before .before .before .before .before .if1 .left), sym (c .before .before .before .before .before .before .before .before .is-call .ensures) ∙ c .before .before .before .before .before .before .before .if2 .taken) (ap (λ (t : Turn × List ℕ × List ℕ). (t .0, now (a .ring), now (a .finished), t .1, now (a .packets), t .2)) (c .before .before .before .before .serve-calls .ensures))
+
+returns-3 : tie.Need-returns-3
+unfolding serveAlone
+returns-3 c =
+    let a = c .before .before .before .before .before .before .before .before .before .before .before .before .before .before .before .before .args in
+    rw (ne-eqb _ _ (c .before .before .before .before .before .before .before .before .before .if1 .left), sym (c .before .before .before .before .before .before .before .before .is-call .ensures) ∙ c .before .before .before .before .before .before .before .if2 .left, sym (c .before .before .before .before .before .before .is-tool .ensures) ∙ c .before .before .before .before .before .if3 .taken) (ap (λ (t : Turn × List ℕ). (t .0, now (a .ring), now (a .finished), now (a .records), now (a .packets), t .1)) (c .before .before .serve-tools .ensures))
+
+same-length-10 : tie.Need-same-length-10
+same-length-10 c = c .before .before .before .before .before .before .before .before .before .before .serve-session .kept .1 .0
+
+same-length-11 : tie.Need-same-length-11
+same-length-11 c = c .before .before .before .before .before .before .before .before .before .before .serve-session .kept .1 .1 .0
+
+same-length-12 : tie.Need-same-length-12
+same-length-12 c = c .before .before .before .before .before .before .before .before .before .before .serve-session .kept .1 .1 .1 .0
+
+same-length-13 : tie.Need-same-length-13
+same-length-13 c = c .before .before .before .before .before .before .before .before .before .before .serve-session .kept .1 .1 .1 .1 .0
+
+same-length-14 : tie.Need-same-length-14
+same-length-14 c = c .before .before .before .before .before .before .before .before .before .before .serve-session .kept .1 .1 .1 .1 .1 .1 .1 .0
+
+returns-4 : tie.Need-returns-4
+unfolding serveAlone
+returns-4 c = rw (ne-eqb _ _ (c .before .before .before .before .before .before .before .before .before .before .before .before .before .before .before .before .before .before .before .before .if1 .left), sym (c .before .before .before .before .before .before .before .before .before .before .before .before .before .before .before .before .before .before .before .is-call .ensures) ∙ c .before .before .before .before .before .before .before .before .before .before .before .before .before .before .before .before .before .before .if2 .left, sym (c .before .before .before .before .before .before .before .before .before .before .before .before .before .before .before .before .before .is-tool .ensures) ∙ c .before .before .before .before .before .before .before .before .before .before .before .before .before .before .before .before .if3 .left) (c .before .before .before .before .before .before .before .before .before .before .serve-session .ensures)
+
+pub serve-alone-spec : {M : Type 1} → statement M
+serve-alone-spec =
+    tie.close
+    (tie.spec
+    (λ c κs. tt)
+    same-length
+    same-length-2
+    (λ c. search needs)
+    (λ c. search needs)
+    same-length-5
+    returns
+    (λ c κs. tt)
+    (λ c κs. tt)
+    (λ c. c .before .before .before .before .serve-calls .kept .1 .0)
+    same-length-7
+    returns-2
+    (λ c κs. tt)
+    (λ c κs. tt)
+    (λ c. search needs)
+    (λ c. c .before .before .serve-tools .kept .1 .1 .1 .1 .0)
+    returns-3
+    (λ c κs. tt)
+    same-length-10
+    same-length-11
+    same-length-12
+    same-length-13
+    same-length-14
+    returns-4)

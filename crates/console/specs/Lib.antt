@@ -1,0 +1,3 @@
+-- What a line does.
+pub mod Walk
+pub mod Serve
