@@ -228,12 +228,12 @@ pub fn mark_packets(packets: &mut [Packet], finished: &[u32], b: Block) -> Stand
 
 // The packets of a record by value, and how the walk ended.
 pub struct Marked {
-    pub packets: [Packet; 64],
+    pub packets: [Packet; PACKETS],
     pub standing: Standing,
 }
 
 // The same over packets by value: they are lent from a local.
-pub fn marked_block(packets: [Packet; 64], finished: &[u32], b: Block) -> Marked
+pub fn marked_block(packets: [Packet; PACKETS], finished: &[u32], b: Block) -> Marked
     ensures { λ r. ⌜ (r .packets ≡ walked packets (now (finished .entry)) b .packets) × (r .standing ≡ walked packets (now (finished .entry)) b .standing) ⌝ }
 {
     let mut held = packets;

@@ -17,6 +17,7 @@ use marking::Block;
 use marking::FOUND;
 use marking::REFUSED;
 use marking::Standing;
+use table::packets::PACKETS;
 use table::packets::Packet;
 use table::records::Record;
 use worth::complete::completed;
@@ -30,7 +31,7 @@ pub enum Walk {
 }
 
 // The first packets of a record, out of their words.
-fn load(packets: &[u64], number: usize, count: usize) -> [Packet; 64]
+fn load(packets: &[u64], number: usize, count: usize) -> [Packet; PACKETS]
     requires { ⌜ (length (now packets) ≡ recordCount * packetCount) × (number < recordCount) × (count ≤ packetCount) ⌝ }
     ensures { λ r. ⌜ r ≡ loaded count (now (packets .entry)) number ⌝ }
 {
@@ -39,7 +40,7 @@ fn load(packets: &[u64], number: usize, count: usize) -> [Packet; 64]
         actual: 0,
         marked: false,
     };
-    let mut held = [none; 64];
+    let mut held = [none; PACKETS];
     let mut i: usize = 0;
     while i < count {
         let p = table::packets::packet_at(packets, number, i);
@@ -63,7 +64,7 @@ fn keep(packets: &mut [u64], number: usize, k: usize, p: Packet)
     }
 }
 
-fn keep_all(packets: &mut [u64], number: usize, count: usize, held: [Packet; 64])
+fn keep_all(packets: &mut [u64], number: usize, count: usize, held: [Packet; PACKETS])
     requires { ⌜ (length (now packets) ≡ recordCount * packetCount) × (number < recordCount) × (count ≤ packetCount) ⌝ }
     ensures { λ _. ⌜ now (packets .exit) ≡ keepBelow count (now (packets .entry)) number (λ j. getD held j nowhere) ⌝ }
 {
