@@ -1,0 +1,21 @@
+// Every public call and the controller, by lines on standard input: the session's larger brother.
+fn main() {
+    let mut ring = [0u32; 16384];
+    let mut finished = [0u32; 16384];
+    let mut records = [0u64; 768];
+    let mut packets = [0u64; 4096];
+    let mut bytes = [0u8; 65536];
+    let mut values = [0u64; 4098];
+    let mut out = [0u8; 393216];
+    program::run(
+        &mut ring,
+        &mut finished,
+        &mut records,
+        &mut packets,
+        &mut bytes,
+        &mut values,
+        &mut out,
+        true,
+        4096,
+    );
+}

@@ -1,0 +1,9 @@
+-- `gotten` is safe and ends. Assumes nothing.
+use Rattle.program.proofs.gotten.Statement.{statement}
+use Rattle.program.proofs.gotten.Tie as tie
+
+pub gotten-spec : {M : Type 1} → statement M
+gotten-spec =
+    tie.close
+    (tie.spec
+    (λ c. tt))

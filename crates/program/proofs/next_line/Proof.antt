@@ -1,0 +1,55 @@
+-- `next_line` is safe and ends. The lent slices keep their lengths; the measure is the count of turns. Assumes nothing.
+use mathlib.Core.Path.{_≡_, refl, _∙_}
+use native.Mathlib.Omega.{arith}
+use lib.ListN.{length}
+use Rattle.program.proofs.next_line.Statement.{statement}
+use Rattle.program.proofs.next_line.Tie as tie
+
+abbrev Inv-loop : tie.InvT-loop
+Inv-loop bytes₀ values₀ full out at number from₀ have₀ line₀ some₀ page₀ turns₀ bytes values from have line some page turns = (length bytes ≡ length bytes₀) × (length values ≡ length values₀)
+
+abbrev μ-loop : tie.MeasureT-loop
+μ-loop bytes₀ values₀ full out at number from₀ have₀ line₀ some₀ page₀ turns₀ bytes values from have line some page turns = turns
+
+same-length : tie.Need-same-length Inv-loop μ-loop
+same-length c = c .before .before .before .before .before .before .before .before .more .kept .0 ∙ c .before .before .before .before .before .before .before .before .before .before .before .loop .inv .0
+
+same-length-2 : tie.Need-same-length-2 Inv-loop μ-loop
+same-length-2 c = c .before .before .before .finish .kept .1 .0 ∙ c .before .before .before .before .before .before .before .before .before .before .before .loop .inv .1
+
+same-length-3 : tie.Need-same-length-3 Inv-loop μ-loop
+same-length-3 c = c .before .before .before .before .before .before .before .before .before .before .before .more .kept .0 ∙ c .before .before .before .before .before .before .before .before .before .before .before .before .before .before .loop .inv .0
+
+same-length-4 : tie.Need-same-length-4 Inv-loop μ-loop
+same-length-4 c = c .before .before .before .before .before .scan-to .kept .1 .1 .1 .1 .0 ∙ c .before .before .before .before .before .before .before .before .before .before .before .before .before .before .loop .inv .1
+
+loop-again : tie.Need-loop-again Inv-loop μ-loop
+loop-again c = (c .before .before .before .before .before .before .before .before .before .before .more .kept .0 ∙ c .before .before .before .before .before .before .before .before .before .before .before .before .before .loop .inv .0, c .before .before .before .before .scan-to .kept .1 .1 .1 .1 .0 ∙ c .before .before .before .before .before .before .before .before .before .before .before .before .before .loop .inv .1)
+
+pub next-line-spec : {M : Type 1} → statement M
+next-line-spec =
+    tie.close
+    (tie.spec
+    Inv-loop
+    μ-loop
+    (λ c κs. tt)
+    (λ c κs. tt)
+    (λ c. (refl, refl))
+    (λ c. omega arith)
+    (λ c κs. tt)
+    (λ c κs. tt)
+    (λ c κs. tt)
+    same-length
+    same-length-2
+    (λ c. tt)
+    (λ c κs. tt)
+    (λ c κs. tt)
+    same-length-3
+    same-length-4
+    (λ c. tt)
+    (λ c. omega arith)
+    loop-again
+    (λ c κs. tt)
+    (λ c. c .before .before .loop .inv .0)
+    (λ c. c .before .before .loop .inv .1)
+    (λ c. tt))
