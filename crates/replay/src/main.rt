@@ -6,7 +6,7 @@ fn main() {
     let mut packets = [0u64; 4096];
     let mut bytes = [0u8; 65536];
     let mut values = [0u64; 4098];
-    let mut out = [0u8; 1048576];
+    let mut out = [0u8; 393216];
     program::run(
         &mut ring,
         &mut finished,
