@@ -6,7 +6,7 @@
 //!     comparer --names                                  the exceptions
 //!
 //! First every short session out of a list (exhaustive.rs), then random ones (random.rs), until N calls are made or the seconds are over.
-//! `--without` switches exceptions off (`all`: every one). `--first` ends the run at the first difference. `--random` leaves the short
+//! `--without` switches exceptions off (`all`: every one). `--first` ends the run at the first difference. `--as-found` keeps it as it was found. `--random` leaves the short
 //! ones out. `--session`: PROGRAM is document 01's session program. A difference is made small and kept in FOLDER, with both outputs. The last line ends in ' 0 differ' where nothing differs.
 mod chance;
 mod damage;
@@ -37,6 +37,7 @@ struct Settings {
     seconds: Option<u64>,
     exceptions: Exceptions,
     first: bool,
+    as_found: bool,
     random: bool,
     session: bool,
     sample: Option<u64>,
@@ -57,6 +58,7 @@ fn settings() -> Settings {
         seconds: None,
         exceptions: Exceptions::all(),
         first: false,
+        as_found: false,
         random: false,
         session: false,
         sample: None,
@@ -76,6 +78,7 @@ fn settings() -> Settings {
             "--damaged" => s.damaged = Some(number(next())),
             "--keep" => s.keep = PathBuf::from(next()),
             "--first" => s.first = true,
+            "--as-found" => s.as_found = true,
             "--random" => s.random = true,
             "--session" => s.session = true,
             "--without" => {
@@ -215,12 +218,12 @@ impl Found {
     }
 
     fn keep(&self, lines: Vec<String>) {
-        println!(
-            "a session of {} lines differs, after {} calls; it is made small",
-            lines.len(),
-            self.calls
-        );
-        let small = shrink::shrink(lines, |lines| self.differs(lines));
+        println!("a session of {} lines differs, after {} calls", lines.len(), self.calls);
+        let small = if self.settings.as_found {
+            lines
+        } else {
+            shrink::shrink(lines, |lines| self.differs(lines))
+        };
         self.show(script::joined(&small));
     }
 

@@ -19,7 +19,7 @@ pub struct Run {
     out: Receiver<Vec<u8>>,
 }
 
-const PATIENCE: Duration = Duration::from_secs(120);
+const PATIENCE: Duration = Duration::from_secs(20);
 
 impl Ours {
     pub fn start(&self, input: Vec<u8>) -> Run {
