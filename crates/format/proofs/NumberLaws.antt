@@ -152,3 +152,27 @@ module _ (n most : ℕ) (fits : n < 2 ^ 64) (small : n ≤ most) where
       let holds : n < 16 ^ k = omega (arith, l .holds) in
       let one : 1 ≤ k = omega (arith, l .some) in
       written 16 most k n one ∙ read-back 16 (omega arith) (omega arith) most k n holds small
+
+-- ---- what is read is of its type
+
+small-by : (base most v b n : ℕ) (bs : List ℕ) (d l : Bool) → ltb (digitOf b) base ≡ d → leb (v * base + digitOf b) most ≡ l
+    → numberFrom base most v (b ∷ bs) ≡ some n
+    → (v * base + digitOf b ≤ most → numberFrom base most (v * base + digitOf b) bs ≡ some n → n ≤ most)
+    → n ≤ most
+unfolding numberFrom fits
+small-by base most v b n bs false l ed el e more = let z : _≡_ {A = ℕ} 0 1 = cc (rw ed at e) in absurd (omega arith)
+small-by base most v b n bs true true ed el e more = more (leb-true (v * base + digitOf b) most el) (rw (ed, el) at e)
+small-by base most v b n bs true false ed el e more = let z : _≡_ {A = ℕ} 0 1 = cc (rw (ed, el) at e) in absurd (omega arith)
+
+small-from : (base most v n : ℕ) (bs : List ℕ) → v ≤ most → numberFrom base most v bs ≡ some n → n ≤ most
+unfolding numberFrom
+small-from base most v n [] small e = let same : v ≡ n = cc in omega arith
+small-from base most v n (b ∷ bs) small e =
+    small-by base most v b n bs (ltb (digitOf b) base) (leb (v * base + digitOf b) most) refl refl e
+    (λ h d. small-from base most (v * base + digitOf b) n bs h d)
+
+-- A number that is read is not above the largest of its type.
+pub number-small : (base most n : ℕ) (x : List ℕ) → number base most x ≡ some n → n ≤ most
+unfolding number
+number-small base most n [] e = let z : _≡_ {A = ℕ} 0 1 = cc in absurd (omega arith)
+number-small base most n (b ∷ bs) e = small-from base most 0 n (b ∷ bs) (omega arith) e
