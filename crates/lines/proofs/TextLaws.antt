@@ -15,11 +15,11 @@ use Rattle.io.specs.Digits.{digits, Fewest}
 use Rattle.lines.specs.Page.{placesIn, places, decimal, hex}
 
 -- k digits hold n, and fewer do not, but that 0 has one.
-record Least (base n k : ℕ) : Type 0 where
-  some : 1 ≤ k
-  holds : n < base ^ k
-  full : 0 < n → base ^ (k - 1) ≤ n
-  more : 1 < k → 0 < n
+pub record Least (base n k : ℕ) : Type 0 where
+  pub some : 1 ≤ k
+  pub holds : n < base ^ k
+  pub full : 0 < n → base ^ (k - 1) ≤ n
+  pub more : 1 < k → 0 < n
 
 -- One digit in front.
 longer : (base n k : ℕ) → 0 < base → base ≤ n → Least base (n / base) k → Least base n (1 + k)
@@ -45,7 +45,7 @@ longer base n k pos large l =
     off : (k : ℕ) → 1 + k - 1 ≡ k
     off k = omega arith
 
-places-least : (fuel base n : ℕ) → 1 < base → n < base ^ suc fuel → Least base n (placesIn fuel base n)
+pub places-least : (fuel base n : ℕ) → 1 < base → n < base ^ suc fuel → Least base n (placesIn fuel base n)
 unfolding placesIn
 places-least zero base n two h = record { some = omega arith; holds = h; full = λ p. let z : base ^ (1 - 1) ≡ 1 = pow-zero base in omega arith; more = λ l. omega arith }
 places-least (suc fuel) base n two h = by (ltb n base) refl (λ less. places-least fuel base (n / base) two less)

@@ -1,4 +1,4 @@
--- The reader of a line between two of its bytes: what each byte, and the line's end, does to it. `Format` says what comes of a whole line.
+-- The reader of a line between two of its bytes: what each byte, and the line's end, does to it. The crate `format` says what comes of a whole line.
 use Prim.Native.Nat.{ℕ, _+_, _-_, _*_, _%_, _^_}
 use mathlib.Core.Bool.{Bool, true, false, not, _&&_, _||_}
 use mathlib.Core.List.{List, [], _∷_}
@@ -37,7 +37,7 @@ withCount r n f =
 
 abbrev pub anotherWord : Reading → Reading
 anotherWord r =
-    record { full = r .full; good = r .good; naming = r .naming; before = r .word; word = 0; form = 0; value = r .value; some = r .some; count = r .count }
+    record { full = r .full; good = r .good; naming = true; before = r .word; word = 0; form = 0; value = r .value; some = r .some; count = r .count }
 
 abbrev pub anotherNumber : Reading → Reading
 anotherNumber r =

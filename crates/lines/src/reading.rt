@@ -147,6 +147,7 @@ fn next_field(r: Reading) -> Reading
     }
     let mut next = r;
     if r.form == words::NAME {
+        next.naming = true;
         next.before = r.word;
         next.word = 0;
         next.form = 0;

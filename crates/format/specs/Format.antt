@@ -1,4 +1,4 @@
--- The format of a line as a whole: what a line of bytes says. `Reader` comes to the same, byte by byte (proofs/FormatLaws).
+-- The format of a line as a whole: what a line of bytes says. The reader of `lines` comes to the same, byte by byte (proofs/FormatLaws).
 --
 -- Fields are parted by tabs. The first is a word; a word that names another is followed by that one; then come the numbers that the word takes, each of
 -- its kind. A line with an unknown word, or a field missing, extra, unreadable or too large for its type is bad.
@@ -34,22 +34,20 @@ pub data Said : Type 0 where
   badLine : Said
   said : ℕ → ℕ → ℕ → List ℕ → Said
 
-module _ (full : Bool) where
-  -- Behind a word, with the form of its fields: the fields that are left.
-  unfoldable pub follow : ℕ → ℕ → ℕ → ℕ → List ℕ → List (List ℕ) → Said
-  follow before w f n values [] = pick (complete f) (said before w n values) badLine
-  follow before w f n values (x ∷ xs) =
-      pick (eqb f 0) badLine
-      (pick (eqb f name)
-      (elim (wordFrom 0 x) [
-        | none ↦ badLine
-        | some v ↦ pick (eqb (formOf full w v) unknown) badLine (follow w v (formOf full w v) n values xs)
-      ])
-      (elim (number (baseOf (f % 16)) (mostOf (f % 16)) x) [
-        | none ↦ badLine
-        | some v ↦ follow before w (restOf f) (keep n v values .0) (keep n v values .1) xs
-      ]))
+-- What a field that can be read leads to.
+abbrev pub ifRead : Option ℕ → (ℕ → Said) → Said
+ifRead none next = badLine
+ifRead (some v) next = next v
 
--- A line, with room for so many numbers.
+-- Behind a word, with the form of its fields: the fields that are left. n numbers stand already.
+unfoldable pub follow : Bool → ℕ → ℕ → ℕ → ℕ → List ℕ → List (List ℕ) → Said
+follow full before w f n values [] = pick (complete f) (said before w n values) badLine
+follow full before w f n values (x ∷ xs) =
+    pick (eqb f 0) badLine
+    (pick (eqb f name)
+    (ifRead (wordFrom 0 x) (λ v. pick (eqb (formOf full w v) unknown) badLine (follow full w v (formOf full w v) n values xs)))
+    (ifRead (number (baseOf (f % 16)) (mostOf (f % 16)) x) (λ v. follow full before w (restOf f) (keep n v values .0) (keep n v values .1) xs)))
+
+-- A line, with room for so many numbers: its first field is a word.
 unfoldable pub line : Bool → List ℕ → List ℕ → Said
 line full values bs = follow full 0 0 name 0 values (fields bs)

@@ -1,0 +1,6 @@
+-- Laws of the format.
+pub mod FormatLaws
+pub mod NumberLaws
+pub mod LengthLaws
+pub mod WordLaws
+pub mod PartLaws

@@ -1,0 +1,2 @@
+-- The format of a line.
+pub mod Format

@@ -1,0 +1,2 @@
+-- A request's line against the whole submission.
+pub mod WholeLaws
