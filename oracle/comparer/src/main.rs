@@ -248,8 +248,12 @@ impl Found {
 /// Inputs with a damaged line; each is a run of its own.
 fn damaged(found: &mut Found, script: &mut Script, count: u64) -> ! {
     let seed = found.settings.seed;
-    let mut bad = 0;
+    let (mut bad, mut made) = (0, 0);
     for number in 0..count {
+        if found.settings.first && found.differ > 0 {
+            break;
+        }
+        made += 1;
         let seed = seed.wrapping_mul(0x1_0000_0001).wrapping_add(number);
         let input = damage::write(script, seed, found.settings.session);
         let rust = script::replay(&input, &found.settings.exceptions, found.settings.session).unwrap_or_default();
@@ -261,7 +265,7 @@ fn damaged(found: &mut Found, script: &mut Script, count: u64) -> ! {
             }
         }
     }
-    println!("seed {seed}: {count} damaged inputs, {bad} of them bad, {} differ", found.differ);
+    println!("seed {seed}: {made} damaged inputs, {bad} of them bad, {} differ", found.differ);
     exit(if found.differ == 0 { 0 } else { 1 })
 }
 
