@@ -17,8 +17,8 @@ use Rattle.ids.specs.declared.Lookup.the-variants.{At}
 use Rattle.ids.proofs.LookupLaws.{find-finds}
 use Rattle.ring.specs.Ring.{isSlot, slotOf}
 use Rattle.ring.specs.declared.Slot.the-variants as slot
-use Rattle.trb.specs.Event.{eventOf}
-use Rattle.trb.specs.declared.Event.{Event}
+use Rattle.event.specs.Event.{eventOf}
+use Rattle.event.specs.declared.Event.{Event}
 use Rattle.trb.specs.declared.Words.{Words}
 use Rattle.table.specs.Packets.{packetCount}
 use Rattle.table.specs.Records.{isoch, inFlight, recordAt}

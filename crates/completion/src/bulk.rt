@@ -21,7 +21,7 @@ fn by_event(f: Finished, e: Endpoint, v: Record, number: usize) -> ReclaimedOne
     match f {
         Finished::Nothing => unfinished(e),
         Finished::Event(w) => {
-            let event = trb::event_of(w);
+            let event = event::event_of(w);
             let size = less(v.length, event.remaining as u64);
             completed(e, v, number, event.code, !is_accepted(event.code), size)
         }

@@ -34,7 +34,7 @@ fn stage_by(f: Finished, e: Endpoint, v: Record, number: usize) -> Stage
     match f {
         Finished::Nothing => Stage::Onward,
         Finished::Event(w) => {
-            let event = trb::event_of(w);
+            let event = event::event_of(w);
             if is_accepted(event.code) {
                 return Stage::Onward;
             }
@@ -50,7 +50,7 @@ fn recorded_by(f: Finished, v: Record) -> u64
     match f {
         Finished::Nothing => v.recorded,
         Finished::Event(w) => {
-            let event = trb::event_of(w);
+            let event = event::event_of(w);
             one_above(less(v.length, event.remaining as u64))
         }
     }
@@ -117,7 +117,7 @@ fn status_by(f: Finished, e: Endpoint, v: Record, number: usize, recorded: u64) 
     match f {
         Finished::Nothing => unfinished(e),
         Finished::Event(w) => {
-            let event = trb::event_of(w);
+            let event = event::event_of(w);
             let size = length_of(v, recorded);
             completed(e, v, number, event.code, !is_accepted(event.code), size)
         }

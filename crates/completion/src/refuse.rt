@@ -38,7 +38,7 @@ fn is_ready(e: Endpoint, finished: usize) -> bool
 fn slot_for(e: Endpoint, w: Words) -> Slot
     ensures { λ r. ⌜ r ≡ slotFor e w ⌝ }
 {
-    let event = trb::event_of(w);
+    let event = event::event_of(w);
     ring::slot_of(e.shape.base, e.shape.slots, event.address)
 }
 
@@ -46,7 +46,7 @@ fn slot_for(e: Endpoint, w: Words) -> Slot
 fn is_foreign(e: Endpoint, w: Words) -> bool
     ensures { λ r. ⌜ r ≡ foreign e w ⌝ }
 {
-    let event = trb::event_of(w);
+    let event = event::event_of(w);
     if event.kind != 32 {
         return true;
     }

@@ -10,7 +10,7 @@ use lib.ListN.{length, getD}
 use Rattle.ids.specs.Free.{recordCount}
 use Rattle.ids.specs.Lookup.{findIn}
 use Rattle.ids.specs.declared.Lookup.the-variants.{At}
-use Rattle.trb.specs.Event.{eventOf}
+use Rattle.event.specs.Event.{eventOf}
 use Rattle.trb.specs.declared.Words.{Words}
 use Rattle.table.specs.Finished.{finishedAt, fillPlace}
 use Rattle.table.specs.declared.finished.Finished.{Finished}

@@ -36,7 +36,7 @@ use Rattle.table.specs.Finished.{fillPlace}
 use Rattle.table.specs.Packets.{packetCount}
 use Rattle.table.specs.Records.{isoch, inFlight, stopped, cancelledWord, recordAt}
 use Rattle.table.specs.declared.records.Record.{Record}
-use Rattle.trb.specs.Event.{eventOf}
+use Rattle.event.specs.Event.{eventOf}
 use Rattle.dock.specs.declared.Changed.{Changed}
 use Rattle.dock.specs.declared.Endpoint.{Endpoint}
 use Rattle.dock.specs.declared.Outcome.{Outcome}

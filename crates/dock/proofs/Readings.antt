@@ -13,7 +13,7 @@ use Rattle.ids.specs.Order.{afterId}
 use Rattle.base.specs.Fields.{bits}
 use Rattle.base.specs.Part.{put}
 use Rattle.trb.specs.Layouts.{wordsOf, putWords}
-use Rattle.trb.specs.Bursts.{burstsOf, packetsOf}
+use Rattle.bursts.specs.Bursts.{burstsOf, packetsOf}
 use Rattle.ring.specs.Ring.{storeAt}
 use Rattle.table.specs.Records.{recordAt}
 use Rattle.table.specs.Packets.{packetAt}

@@ -5,8 +5,8 @@ use mathlib.Core.List.{List, [], _∷_}
 use lib.Dec.{eqb}
 use lib.ListN.{length}
 use Rattle.base.specs.First.{pick, first}
-use Rattle.trb.specs.Event.{eventOf}
-use Rattle.trb.specs.declared.Event.{Event}
+use Rattle.event.specs.Event.{eventOf}
+use Rattle.event.specs.declared.Event.{Event}
 use Rattle.trb.specs.declared.Words.{Words}
 use Rattle.ring.specs.Ring.{slotOf}
 use Rattle.ring.specs.declared.Slot.{Slot}

@@ -9,7 +9,7 @@ use Rattle.mask.specs.Compute.{clearBit}
 use Rattle.ids.specs.Lookup.{findIn}
 use Rattle.ids.specs.declared.Lookup.{Lookup}
 use Rattle.ids.specs.declared.Lookup.the-variants.{At, Nothing}
-use Rattle.trb.specs.Event.{eventOf}
+use Rattle.event.specs.Event.{eventOf}
 use Rattle.trb.specs.declared.Words.{Words}
 use Rattle.table.specs.Finished.{finishedAt}
 use Rattle.table.specs.declared.finished.Finished.{Finished}

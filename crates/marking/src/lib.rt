@@ -170,7 +170,7 @@ fn look(f: Finished, p: Packet, s: Standing) -> Turned
             standing: pass(s),
         },
         Finished::Event(w) => {
-            let event = trb::event_of(w);
+            let event = event::event_of(w);
             let value = value_of(event.code, p.requested, event.remaining);
             match value {
                 Value::Bytes(n) => credit(p, n, event.code, s),

@@ -13,7 +13,7 @@ use Rattle.base.specs.First.{pick}
 use Rattle.base.specs.Fields.{bits}
 use Rattle.base.proofs.Compare.{lt-or-le, same-or-not}
 use Rattle.base.proofs.Decide.{by-ltb, both}
-use Rattle.trb.specs.Bursts.{burstsOf}
+use Rattle.bursts.specs.Bursts.{burstsOf}
 use Rattle.trb.specs.Cycle.{typeOf}
 use Rattle.trb.specs.Layouts.{kindOf}
 use Rattle.trb.specs.declared.Trb.{Trb}

@@ -12,7 +12,7 @@ use Rattle.mask.specs.Bit.{bit}
 use Rattle.mask.specs.Compute.{lowestClear, clearFrom, setBit, clearBit}
 use Rattle.ids.specs.Free.{freeId, freeFrom, heldBy, any}
 use Rattle.ids.specs.Lookup.{findFrom, findId}
-use Rattle.trb.specs.Bursts.{burstsOf, packetsOf}
+use Rattle.bursts.specs.Bursts.{burstsOf, packetsOf}
 use Rattle.trb.specs.Cycle.{owned, typeOf}
 use Rattle.trb.specs.Cycle as cycle
 use Rattle.trb.specs.Layouts.{wordsOf, wordsAt, putWords}

@@ -11,7 +11,7 @@ use lib.Dec.{eqb}
 use lib.ListN.{length, getD}
 use Rattle.base.proofs.Compare.{same-or-not}
 use Rattle.base.proofs.Decide.{by-leb, by-ltb, by-eqb, by-true, both}
-use Rattle.trb.specs.Event.{eventOf}
+use Rattle.event.specs.Event.{eventOf}
 use Rattle.trb.specs.declared.Words.{Words}
 use Rattle.ids.proofs.AnyLaws.{true-or-false}
 use Rattle.ring.specs.Ring.{slotAddress, slotOf}

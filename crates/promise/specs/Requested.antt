@@ -5,7 +5,7 @@ use mathlib.Core.List.{List, [], _∷_}
 use lib.Dec.{eqb, ltb}
 use Rattle.base.specs.First.{pick}
 use Rattle.base.specs.Fields.{bits}
-use Rattle.trb.specs.Bursts.{burstsOf}
+use Rattle.bursts.specs.Bursts.{burstsOf}
 use Rattle.trb.specs.Layouts.{wordsOf}
 use Rattle.trb.specs.declared.Trb.{Trb}
 use Rattle.trb.specs.declared.Trb.the-variants.{Normal, Setup, Data, Status, Isoch}

@@ -10,7 +10,7 @@ use lib.Dec.{eqb, leb, ltb}
 use lib.ListN.{length}
 use Rattle.base.specs.First.{pick}
 use Rattle.trb.specs.Cycle.{Pointer}
-use Rattle.trb.specs.Event.{eventOf}
+use Rattle.event.specs.Event.{eventOf}
 use Rattle.trb.specs.declared.Trb.{Trb}
 use Rattle.trb.specs.declared.Words.{Words}
 use Rattle.ring.specs.Ring.{slotAddress}

@@ -26,7 +26,7 @@ pub fn set_transfer_trb(ring: &mut [u32], place: usize, trb: Trb, cycle: bool)
     ensures { λ _. ⌜ now (ring .exit) ≡ storeAt (now (ring .entry)) place trb cycle ⌝ }
 {
     let start = 4 * place;
-    trb::encode(&mut ring[start..start + 4], trb, cycle);
+    encoding::encode(&mut ring[start..start + 4], trb, cycle);
 }
 
 // How a store is made: with the current cycle, after which the place rises; the same with the opposite cycle; or as the link's, at the last slot.

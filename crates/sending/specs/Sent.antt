@@ -7,7 +7,7 @@ use lib.Dec.{eqb}
 use lib.ListN.{length, getD}
 use lib.Seq.{paste}
 use Rattle.base.specs.First.{pick}
-use Rattle.trb.specs.Bursts.{burstsOf}
+use Rattle.bursts.specs.Bursts.{burstsOf}
 use Rattle.trb.specs.declared.Trb.{Trb}
 use Rattle.trb.specs.declared.Trb.the-variants.{Isoch}
 use Rattle.ring.specs.Ring.{storeAt}

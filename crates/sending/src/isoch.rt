@@ -3,7 +3,7 @@ ghost use mathlib.Core.Path.{_≡_};
 ghost use Prim.Native.Nat.{_+_, _*_, _%_, _≤_, _<_, max};
 ghost use lib.ListN.{length};
 ghost use lib.Seq.{paste};
-ghost use Rattle.trb.specs.Bursts.{burstsOf};
+ghost use Rattle.bursts.specs.Bursts.{burstsOf};
 ghost use Rattle.table.specs.Packets.{packetCount};
 ghost use Rattle.dock.specs.Start.{atLeastOne};
 ghost use Rattle.sending.specs.Sent.{packetTrb, packetPut, allPut};
@@ -11,7 +11,7 @@ use crate::put;
 use dock::Periodic;
 use dock::Shape;
 use ring::Position;
-use trb::Bursts;
+use bursts::Bursts;
 use trb::Trb;
 
 // Where an ISO submission stands: the producer's position, the running address and the next frame number.
@@ -29,7 +29,7 @@ fn bursts_again(s: Periodic, size: u64, bursts: Bursts, next: u64) -> Bursts
     if next == size {
         return bursts;
     }
-    trb::bursts_of(next, s.packet, s.burst)
+    bursts::bursts_of(next, s.packet, s.burst)
 }
 
 // Isoch: "bit 2 when in, bit 5, bit 9 on all but the last packet, last-burst count at bit 16, bit 31".
@@ -102,7 +102,7 @@ fn put_packets(
 {
     let mut at = pen;
     let mut size: u64 = 0;
-    let mut bursts = trb::bursts_of(0, s.packet, s.burst);
+    let mut bursts = bursts::bursts_of(0, s.packet, s.burst);
     let mut i: usize = 0;
     while i < sizes.len() {
         let next = sizes[i];

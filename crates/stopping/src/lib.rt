@@ -156,7 +156,7 @@ fn reset_words(e: Endpoint) -> Words
         endpoint: e.who.dci,
         slot: e.who.slot,
     };
-    trb::words_of(command, false)
+    encoding::words_of(command, false)
 }
 
 // Set TR Dequeue: the controller goes on where the producer stands.
@@ -170,7 +170,7 @@ fn dequeue_words(e: Endpoint) -> Words
         endpoint: e.who.dci,
         slot: e.who.slot,
     };
-    trb::words_of(command, false)
+    encoding::words_of(command, false)
 }
 
 // Begins a reset: nothing to do where nothing is halted, else the words of two commands.
@@ -248,7 +248,7 @@ pub fn stop_words(e: Endpoint) -> Command
         endpoint: e.who.dci,
         slot: e.who.slot,
     };
-    Command::Words(trb::words_of(command, false))
+    Command::Words(encoding::words_of(command, false))
 }
 
 // The words of the command that sets it going again, at the producer's place.

@@ -91,7 +91,7 @@ fn isoch_trb(e: Endpoint, v: Record, size: u32, k: usize) -> Trb
     requires { ⌜ k ≤ packetCount ⌝ }
     ensures { λ r. ⌜ r ≡ isochTrb e v k size ⌝ }
 {
-    let b = trb::bursts_of(size as u64, e.periodic.packet, e.periodic.burst);
+    let b = bursts::bursts_of(size as u64, e.periodic.packet, e.periodic.burst);
     let count = checks::trb_count(v);
     Trb::Isoch {
         address: e.work.address,

@@ -1,12 +1,10 @@
 -- Readings from the bench (document 01) that speak of words alone, computed by the definitions. Assumes nothing.
-use Prim.Native.Nat.{ℕ}
+use Prim.Native.Nat.{ℕ, _-_, _^_}
 use mathlib.Core.Bool.{true, false}
-use mathlib.Core.List.{[], _∷_}
+use mathlib.Core.List.{List, [], _∷_}
 use mathlib.Core.Path.{_≡_, refl}
 use Rattle.trb.specs.Layouts.{wordsOf, listed}
-use Rattle.trb.specs.Bursts.{packetsOf, burstsOf}
-use Rattle.trb.specs.Event.{eventOf}
-use Rattle.trb.specs.declared.Trb.the-variants.{Normal, Setup, Data, Status, Isoch, Link}
+use Rattle.trb.specs.declared.Trb.the-variants.{Normal, Setup, Data, Status, Isoch, Link, ResetEndpoint, StopEndpoint, SetDequeue}
 
 -- W5: bulk of 64, cycle 1: w3 00000425.
 w5 : (address : ℕ) → wordsOf (Normal address 64 0 0 true false true) true .w3 ≡ 1061
@@ -22,11 +20,7 @@ w6-more : (address : ℕ) → wordsOf (Isoch address 192 0 0 true false true tru
 unfolding wordsOf
 w6-more address = refl
 
--- W7: 4,096 bytes, max packet 1,024, burst 2: w2 00021000, last-burst 0.
-w7 : burstsOf 4096 1024 2 ≡ record { count = 1; last = 0 }
-unfolding burstsOf packetsOf
-w7 = refl
-
+-- W7: 4,096 bytes, burst count 1: w2 00021000.
 w7-word : (address : ℕ) → wordsOf (Isoch address 4096 1 0 true false true false 0 0 true) true .w2 ≡ 135168
 unfolding wordsOf
 w7-word address = refl
@@ -48,6 +42,33 @@ w10-status : listed (wordsOf (Status true false) false) ≡ 0 ∷ 0 ∷ 0 ∷ 41
 unfolding wordsOf
 w10-status = refl
 
--- The event of the worked session: 10020 0 1000000 1018000.
-worked-event : eventOf (record { w0 = 65568; w1 = 0; w2 = 16777216; w3 = 16875520 }) ≡ record { kind = 32; slot = 1; endpoint = 1; address = 65568; remaining = 0; code = 1 }
-worked-event = refl
+-- Every TRB with each field at its largest and cycle 1, one table: its four words, worked out by hand from document 01, "Words of a TRB".
+top : ℕ
+top = 2 ^ 64 - 1
+
+largest : List (List ℕ)
+largest =
+    listed (wordsOf (Normal top 131071 31 1023 true true true) true)
+    ∷ listed (wordsOf (Setup 255 255 65535 65535 65535 3) true)
+    ∷ listed (wordsOf (Data top 131071 true true) true)
+    ∷ listed (wordsOf (Status true true) true)
+    ∷ listed (wordsOf (Isoch top 131071 31 1023 true true true true 15 2047 true) true)
+    ∷ listed (wordsOf (Link top true true) true)
+    ∷ listed (wordsOf (ResetEndpoint 31 255) true)
+    ∷ listed (wordsOf (StopEndpoint 31 255) true)
+    ∷ listed (wordsOf (SetDequeue top true 31 255) true)
+    ∷ []
+
+largest-read : largest
+    ≡ (4294967295 ∷ 4294967295 ∷ 4294967295 ∷ 1077 ∷ [])
+    ∷ (4294967295 ∷ 4294967295 ∷ 8 ∷ 198721 ∷ [])
+    ∷ (4294967295 ∷ 4294967295 ∷ 131071 ∷ 68613 ∷ [])
+    ∷ (0 ∷ 0 ∷ 0 ∷ 69665 ∷ [])
+    ∷ (4294967295 ∷ 4294967295 ∷ 4294967295 ∷ 4294907445 ∷ [])
+    ∷ (4294967280 ∷ 4294967295 ∷ 0 ∷ 6163 ∷ [])
+    ∷ (0 ∷ 0 ∷ 0 ∷ 4280236033 ∷ [])
+    ∷ (0 ∷ 0 ∷ 0 ∷ 4280237057 ∷ [])
+    ∷ (4294967281 ∷ 4294967295 ∷ 0 ∷ 4280238081 ∷ [])
+    ∷ []
+unfolding wordsOf largest top
+largest-read = refl

@@ -1,5 +1,3 @@
--- What the contracts of `trb` cite.
+-- The layouts of the TRBs, and the standard's cycle rule.
 pub mod Layouts
-pub mod Event
-pub mod Bursts
 pub mod Cycle

@@ -1,6 +1,6 @@
 -- `marking::look` meets its contract: each arm is the definition at that place and at what its event is worth. Assumes nothing.
 use mathlib.Core.Path.{sym, ap, _∙_, _≡_}
-use Rattle.trb.specs.declared.Event.{Event}
+use Rattle.event.specs.declared.Event.{Event}
 use Rattle.trb.specs.declared.Words.{Words}
 use Rattle.table.specs.declared.finished.Finished.{Finished}
 use Rattle.dock.specs.Reclaim.{codeOf, remainingOf}

@@ -2,7 +2,7 @@
 use mathlib.Core.Path.{sym, ap, _∙_}
 use borrow.Author.Needs.{needs}
 use Rattle.dock.specs.Worth.{accepted}
-use Rattle.trb.specs.declared.Event.{Event}
+use Rattle.event.specs.declared.Event.{Event}
 use Rattle.completion.proofs.control.stage_by.Statement.{statement}
 use Rattle.completion.proofs.control.stage_by.Tie as tie
 

@@ -8,7 +8,7 @@ use borrow.Author.Needs.{needs}
 use denote.Ref.{now}
 use lib.ListN.{length}
 use lib.Seq.{paste, paste-zero}
-use Rattle.trb.specs.Bursts.{burstsOf}
+use Rattle.bursts.specs.Bursts.{burstsOf}
 use Rattle.starting.proofs.LengthLaws.{copied, copied-length}
 use Rattle.sending.specs.Sent.{allPut}
 use Rattle.sending.proofs.PutLaws.{leftFrom, packet-next, packets-done, all-left}

@@ -1,0 +1,3 @@
+-- The laws of the burst counts, and readings from the bench.
+pub mod BurstLaws
+mod Readings

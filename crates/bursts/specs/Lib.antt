@@ -1,0 +1,2 @@
+-- What the contract of `bursts` cites.
+pub mod Bursts

@@ -1,0 +1,3 @@
+-- The law of the event reader, and readings.
+pub mod EventLaws
+mod Readings

@@ -1,0 +1,2 @@
+-- What the contract of `event` cites.
+pub mod Event
