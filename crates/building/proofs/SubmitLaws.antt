@@ -27,10 +27,12 @@ use Rattle.dock.proofs.RefusalLaws.{submit-acts, submit-refuses, submit-misfits
 use Rattle.dock.proofs.AskedLaws.{few-packets}
 use Rattle.dock.proofs.StartLaws.{start-admitted, record-below}
 use Rattle.dock.proofs.StartedLaws.{place-low}
-use Rattle.starting.specs.Admitted.{Admitted}
-use Rattle.starting.specs.Counts.{requiredBy, takenWith}
-use Rattle.starting.specs.declared.act.Begun.{Begun}
-use Rattle.starting.proofs.StartLaws.{admitted, taken-is}
+use Rattle.admission.specs.Admitted.{Admitted}
+use Rattle.requests.specs.Counts.{requiredBy}
+use Rattle.starting.specs.Taken.{takenWith}
+use Rattle.starting.specs.declared.Begun.{Begun}
+use Rattle.admission.proofs.StartLaws.{admitted}
+use Rattle.starting.proofs.TakenLaws.{taken-is}
 use Rattle.sending.specs.Sent.{sentBy, Sendable}
 use Rattle.sending.proofs.SentLaws.{sent-is}
 use Rattle.building.specs.Numbers.{submitNo}

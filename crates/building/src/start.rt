@@ -15,7 +15,7 @@ pub fn start_request(
 ) -> Changed
     ensures { λ r. ⌜ (r, now (records .exit), now (packets .exit)) ≡ start e (now (records .entry)) (now (packets .entry)) request (now (lengths .entry)) ⌝ }
 {
-    let no = starting::admission::start_no(e, records, packets.len(), request, lengths);
+    let no = admission::start_no(e, records, packets.len(), request, lengths);
     if no != 0 {
         return Changed {
             answer: Outcome::Refused(no),
@@ -24,6 +24,6 @@ pub fn start_request(
     }
     Changed {
         answer: Outcome::Done,
-        endpoint: starting::act::begin(e, records, packets, request, lengths),
+        endpoint: starting::begin(e, records, packets, request, lengths),
     }
 }

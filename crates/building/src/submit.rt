@@ -27,7 +27,7 @@ fn submit_no(
     if !checks::is_sized(finished, e.shape.slots) {
         return 1;
     }
-    starting::admission::start_no(e, records, packets, request, lengths)
+    admission::start_no(e, records, packets, request, lengths)
 }
 
 pub fn submit_request(
@@ -56,7 +56,7 @@ pub fn submit_request(
             endpoint: e,
         };
     }
-    let begun = starting::act::take(e, records, request, lengths.len());
+    let begun = starting::take(e, records, request, lengths.len());
     let at = begun.endpoint;
     let v = begun.kept;
     sending::whole::send(at, v, ring, finished, packets, lengths)

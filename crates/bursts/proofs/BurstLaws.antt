@@ -1,13 +1,12 @@
 -- `ceiling n d` is n / d rounded up, the least number of blocks of d that hold n, and the packets of a length are 1 at least.
 -- Assumes nothing.
-use Prim.Native.Nat.{ℕ, _+_, _*_, _/_, _%_, _<_, _≤_, max}
-use mathlib.Core.Bool.{true, false}
+use Prim.Native.Nat.{ℕ, _+_, _*_, _/_, _%_, _<_, _≤_}
 use mathlib.Core.Logic.{⊎-elim}
-use mathlib.Core.Path.{_≡_, refl}
+use mathlib.Core.Path.{_≡_}
 use native.Mathlib.Nat.{div-add-mod', le-mul-of-pos-right, eq-zero-or-pos, zero-mul, mod-lt, add-mul, one-mul}
 use native.Mathlib.Omega.{arith}
 use borrow.Author.Tests.{eq-eqb, ne-eqb}
-use Rattle.bursts.specs.Bursts.{ceiling, packetsOf}
+use Rattle.bursts.specs.Bursts.{ceiling}
 
 module _ (n d : ℕ) (h : 0 < d) where
   -- With a rest, one more than the quotient is at most n.

@@ -1,6 +1,6 @@
 -- The burst counts of a length, a max packet size and a burst field, by the definition, one table: W7 of document 01 first, then the limits. Assumes
 -- nothing.
-use Prim.Native.Nat.{ℕ, _-_, _^_}
+use Prim.Native.Nat.{_-_, _^_}
 use mathlib.Core.List.{List, [], _∷_}
 use mathlib.Core.Path.{_≡_, refl}
 use Rattle.bursts.specs.Bursts.{packetsOf, burstsOf}

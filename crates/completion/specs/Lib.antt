@@ -1,4 +1,2 @@
 -- What the contracts of `completion` cite beside the definitions of the dock.
 pub mod Parts
-pub mod Sizes
-pub mod Values

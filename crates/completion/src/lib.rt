@@ -21,20 +21,17 @@ use dock::Taken;
 use ids::Lookup;
 use table::records::CANCELLED;
 
-mod bulk;
-mod control;
 mod reclaim;
-mod refuse;
 
 // An event is handed over: its place is filled.
 pub fn hand_over(e: Endpoint, finished: &mut [u32], event: trb::Words) -> Taken
     ensures { λ r. ⌜ (r, now (finished .exit)) ≡ handOver e (now (finished .entry)) event ⌝ }
 {
-    let no = refuse::hand_over_no(e, finished.len(), event);
+    let no = refusal::hand_over_no(e, finished.len(), event);
     if no != 0 {
         return Taken::Refused(no);
     }
-    let slot = refuse::place_for(e, event);
+    let slot = refusal::place_for(e, event);
     table::finished::set_finished(finished, slot, event);
     Taken::Place(slot)
 }
@@ -49,7 +46,7 @@ pub fn reclaim_request(
 ) -> ReclaimedOne
     ensures { λ r. ⌜ (r, now (records .exit), now (packets .exit)) ≡ reclaim e (now (finished .entry)) (now (records .entry)) (now (packets .entry)) id ⌝ }
 {
-    let no = refuse::reclaim_no(e, finished.len(), records, packets.len(), id);
+    let no = refusal::reclaim_no(e, finished.len(), records, packets.len(), id);
     if no != 0 {
         return ReclaimedOne {
             answer: Reclaimed::Refused(no),
@@ -58,7 +55,7 @@ pub fn reclaim_request(
     }
     let found = ids::find_id(records, e.account.occupancy, id);
     match found {
-        Lookup::Nothing => worth::complete::unfinished(e),
+        Lookup::Nothing => completing::unfinished(e),
         Lookup::At(r) => reclaim::reclaim_at(e, finished, records, packets, r),
     }
 }
@@ -79,7 +76,7 @@ fn mark(records: &mut [u64], occupancy: u64, id: u64)
 pub fn cancel_request(e: Endpoint, records: &mut [u64], id: u64) -> Outcome
     ensures { λ r. ⌜ (r, now (records .exit)) ≡ cancel e (now (records .entry)) id ⌝ }
 {
-    let no = refuse::cancel_no(e, records, id);
+    let no = refusal::cancel_no(e, records, id);
     if no != 0 {
         return Outcome::Refused(no);
     }

@@ -7,11 +7,12 @@ ghost use Rattle.ids.specs.Free.{recordCount, recordWords};
 ghost use Rattle.table.specs.Packets.{packetCount};
 ghost use Rattle.table.specs.Records.{isoch, recordAt};
 ghost use Rattle.dock.specs.Reclaim.{reclaimFlying};
-ghost use Rattle.walk.specs.Flying.{Flying};
-ghost use Rattle.completion.specs.Sizes.{Sizes};
-ghost use Rattle.completion.specs.Parts.{misplaced, reclaimAt};
-use crate::bulk::reclaim_bulk;
-use crate::control::reclaim_control;
+ghost use Rattle.completing.specs.Flying.{Flying};
+ghost use Rattle.refusal.specs.Sizes.{Sizes};
+ghost use Rattle.refusal.specs.Misplaced.{misplaced};
+ghost use Rattle.completion.specs.Parts.{reclaimAt};
+use stages::bulk::reclaim_bulk;
+use stages::control::reclaim_control;
 use checks::BULK;
 use checks::CONTROL;
 use checks::INTERRUPT;
@@ -23,8 +24,8 @@ use table::records::IN_FLIGHT;
 use table::records::Record;
 use table::records::STOPPED;
 use walk::reclaim_iso;
-use worth::complete::left;
-use worth::complete::unfinished;
+use completing::left;
+use completing::unfinished;
 
 // A record in flight, by its kind; a kind that is none never finishes.
 fn reclaim_flying(

@@ -22,10 +22,10 @@ pub fn words_of(trb: Trb, cycle: bool) -> Words
             chain,
             interrupt,
         } => Words {
-            w0: words::low(address),
-            w1: words::high(address),
-            w2: words::sized(length, size, target),
-            w3: words::normal(cycle, short, chain, interrupt),
+            w0: word::low(address),
+            w1: word::high(address),
+            w2: word::sized(length, size, target),
+            w3: word::normal(cycle, short, chain, interrupt),
         },
         Trb::Setup {
             kind,
@@ -35,10 +35,10 @@ pub fn words_of(trb: Trb, cycle: bool) -> Words
             length,
             transfer,
         } => Words {
-            w0: words::request(kind, request, value),
-            w1: words::index(index, length),
+            w0: word::request(kind, request, value),
+            w1: word::index(index, length),
             w2: 8,
-            w3: words::setup(cycle, transfer),
+            w3: word::setup(cycle, transfer),
         },
         Trb::Data {
             address,
@@ -46,10 +46,10 @@ pub fn words_of(trb: Trb, cycle: bool) -> Words
             short,
             incoming,
         } => Words {
-            w0: words::low(address),
-            w1: words::high(address),
-            w2: words::sized(length, 0, 0),
-            w3: words::data(cycle, short, incoming),
+            w0: word::low(address),
+            w1: word::high(address),
+            w2: word::sized(length, 0, 0),
+            w3: word::data(cycle, short, incoming),
         },
         Trb::Status {
             interrupt,
@@ -58,7 +58,7 @@ pub fn words_of(trb: Trb, cycle: bool) -> Words
             w0: 0,
             w1: 0,
             w2: 0,
-            w3: words::status(cycle, interrupt, incoming),
+            w3: word::status(cycle, interrupt, incoming),
         },
         Trb::Isoch {
             address,
@@ -73,32 +73,32 @@ pub fn words_of(trb: Trb, cycle: bool) -> Words
             frame,
             asap,
         } => Words {
-            w0: words::low(address),
-            w1: words::high(address),
-            w2: words::sized(length, bursts, target),
-            w3: words::isoch(cycle, short, chain, interrupt, block, last, frame, asap),
+            w0: word::low(address),
+            w1: word::high(address),
+            w2: word::sized(length, bursts, target),
+            w3: word::isoch(cycle, short, chain, interrupt, block, last, frame, asap),
         },
         Trb::Link {
             address,
             toggle,
             chain,
         } => Words {
-            w0: words::pointer(address, false),
-            w1: words::high(address),
+            w0: word::pointer(address, false),
+            w1: word::high(address),
             w2: 0,
-            w3: words::link(cycle, toggle, chain),
+            w3: word::link(cycle, toggle, chain),
         },
         Trb::ResetEndpoint { endpoint, slot } => Words {
             w0: 0,
             w1: 0,
             w2: 0,
-            w3: words::command(cycle, 14, endpoint, slot),
+            w3: word::command(cycle, 14, endpoint, slot),
         },
         Trb::StopEndpoint { endpoint, slot } => Words {
             w0: 0,
             w1: 0,
             w2: 0,
-            w3: words::command(cycle, 15, endpoint, slot),
+            w3: word::command(cycle, 15, endpoint, slot),
         },
         Trb::SetDequeue {
             address,
@@ -106,10 +106,10 @@ pub fn words_of(trb: Trb, cycle: bool) -> Words
             endpoint,
             slot,
         } => Words {
-            w0: words::pointer(address, state),
-            w1: words::high(address),
+            w0: word::pointer(address, state),
+            w1: word::high(address),
             w2: 0,
-            w3: words::command(cycle, 16, endpoint, slot),
+            w3: word::command(cycle, 16, endpoint, slot),
         },
     }
 }

@@ -1,5 +1,5 @@
 -- The event reader reads what the standard's layout of a transfer event stores, whatever its cycle bit. Assumes nothing.
-use Prim.Native.Nat.{ℕ, _+_, _*_, _/_, _%_, _^_, _<_}
+use Prim.Native.Nat.{ℕ, _+_, _*_, _^_, _<_}
 use mathlib.Core.Bool.{Bool}
 use mathlib.Core.Path.{_≡_, refl}
 use native.Mathlib.Omega.{arith}

@@ -1,8 +1,8 @@
 -- The transfer event (6.4.2.1): what its four words say, and its layout. Document 01, "Words of a TRB".
-use Prim.Native.Nat.{ℕ, _+_, _*_, _/_, _^_, _<_}
+use Prim.Native.Nat.{_+_, _*_, _^_, _<_}
 use mathlib.Core.Bool.{Bool}
-use mathlib.Core.List.{List, [], _∷_}
-use Rattle.base.specs.Fields.{Field, field, flag, bits}
+use mathlib.Core.List.{[], _∷_}
+use Rattle.base.specs.Fields.{field, flag, bits}
 use Rattle.trb.specs.declared.Words.{Words}
 use Rattle.event.specs.declared.Event.{Event}
 use Rattle.trb.specs.Layouts.{Layout, addressLow, addressHigh}

@@ -12,8 +12,8 @@ ghost use Rattle.marking.specs.Marking.{behind, fitting, beginOf, onward
 use table::finished::Finished;
 use table::packets::PACKETS;
 use table::packets::Packet;
-use worth::value::Value;
-use worth::value::value_of;
+use worth::Value;
+use worth::value_of;
 
 // The packets of a request: where they stand in the table, how many, the place of the first one's TRB, and the ring's slots.
 pub struct Block {

@@ -1,3 +1,2 @@
--- The laws of the start's parts.
-pub mod LengthLaws
-pub mod StartLaws
+-- The laws of what a start takes.
+pub mod TakenLaws

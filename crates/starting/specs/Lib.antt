@@ -1,3 +1,2 @@
--- The definitions that the contracts of the start's parts cite.
-pub mod Admitted
-pub mod Counts
+-- What the contracts of `starting` cite.
+pub mod Taken

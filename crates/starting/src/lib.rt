@@ -1,6 +1,152 @@
 // The parts of a submission's start: what a request asks for, the refusals in order, and what an admitted one takes and writes.
 //
 // `start_no` takes any input. `begin` asks what the tests showed (`Admitted`); `start_request` of the crate `building` calls it behind them.
-pub mod act;
-pub mod admission;
-pub mod requests;
+//
+// What an admitted submission takes and writes: id, record and count, and the record's packets anew.
+ghost use mathlib.Core.Path.{_≡_};
+ghost use Prim.Native.Nat.{_+_, _*_, _^_, _≤_, _<_};
+ghost use lib.ListN.{length};
+ghost use lib.Seq.{paste};
+ghost use Rattle.mask.specs.Compute.{lowestClear};
+ghost use Rattle.table.specs.Packets.{packetCount};
+ghost use Rattle.dock.specs.Start.{numberFrom, atLeastOne, writePackets};
+ghost use Rattle.requests.specs.Counts.{givenBy, requiredBy};
+ghost use Rattle.starting.specs.Taken.{startedBy, takenWith, begunWith};
+ghost use Rattle.dock.specs.Limits.{recordsSize};
+ghost use Rattle.admission.specs.Admitted.{Admitted};
+use dock::Account;
+use dock::Endpoint;
+use dock::Request;
+use dock::Work;
+use mask::Found;
+use table::records::Record;
+
+// "The lowest clear bit is taken."
+fn record_taken(occupancy: u64) -> usize
+    ensures { λ r. ⌜ (r ≡ numberFrom (lowestClear occupancy)) × (r < 64) ⌝ }
+{
+    let found = mask::lowest_clear(occupancy);
+    match found {
+        Found::At(i) => i,
+        Found::Full => 0,
+    }
+}
+
+// The lengths, one behind the other, from a word on.
+fn copy_lengths(packets: &mut [u64], start: usize, lengths: &[u64])
+    requires { ⌜ start + length (now lengths) ≤ length (now packets) ⌝ }
+    ensures { λ _. ⌜ now (packets .exit) ≡ paste (now (packets .entry)) start (now (lengths .entry)) (length (now (lengths .entry))) ⌝ }
+{
+    let mut i: usize = 0;
+    while i < lengths.len() {
+        packets[start + i] = lengths[i];
+        i += 1;
+    }
+}
+
+// "No packets means one packet of length 0."
+fn write_lengths(packets: &mut [u64], number: usize, lengths: &[u64])
+    requires { ⌜ (packetCount * number + packetCount ≤ length (now packets)) × (length (now lengths) ≤ packetCount) ⌝ }
+    ensures { λ _. ⌜ now (packets .exit) ≡ paste (now (packets .entry)) (packetCount * number) (atLeastOne (now (lengths .entry))) (length (atLeastOne (now (lengths .entry)))) ⌝ }
+{
+    let start = table::packets::PACKETS * number;
+    if lengths.len() == 0 {
+        packets[start] = 0;
+        return;
+    }
+    copy_lengths(packets, start, lengths);
+}
+
+// "Writes the record's packets anew, unmarked." Only an ISO request has packets.
+fn write_packets(packets: &mut [u64], number: usize, request: Request, lengths: &[u64])
+    requires { ⌜ (packetCount * number + packetCount ≤ length (now packets)) × (givenBy request (length (now lengths)) ≤ packetCount) ⌝ }
+    ensures { λ _. ⌜ now (packets .exit) ≡ writePackets (now (packets .entry)) number request (now (lengths .entry)) ⌝ }
+{
+    match request {
+        Request::Control {
+            kind: _,
+            request: _,
+            value: _,
+            index: _,
+            address: _,
+            length: _,
+        } => {}
+        Request::Bulk {
+            incoming: _,
+            address: _,
+            length: _,
+        } => {}
+        Request::Interrupt {
+            incoming: _,
+            address: _,
+            length: _,
+        } => {}
+        Request::Isoch {
+            incoming: _,
+            address: _,
+            length: _,
+        } => write_lengths(packets, number, lengths),
+    }
+}
+
+// The endpoint with the id, the record and the count taken, and the submission under way.
+fn started(e: Endpoint, next: u64, number: usize, request: Request, count: usize) -> Endpoint
+    requires { ⌜ (number < 64) × (e .account .outstanding + requiredBy request count < 2 ^ 64) ⌝ }
+    ensures { λ r. ⌜ r ≡ startedBy e next number request count ⌝ }
+{
+    let account = Account {
+        next,
+        occupancy: mask::with_bit(e.account.occupancy, number),
+        outstanding: e.account.outstanding + requests::required_of(request, count),
+    };
+    let work = Work {
+        busy: true,
+        number,
+        stored: 0,
+        address: requests::buffer_of(request),
+        place: e.at.place,
+        cycle: e.at.cycle,
+    };
+    let mut next = e;
+    next.account = account;
+    next.work = work;
+    next
+}
+
+// What an admitted submission takes: the endpoint with it under way, and the record that is kept of it.
+pub struct Begun {
+    pub endpoint: Endpoint,
+    pub kept: Record,
+}
+
+// The id, the record and the count.
+pub fn take(e: Endpoint, records: &mut [u64], request: Request, count: usize) -> Begun
+    requires { ⌜ (length (now records) ≡ recordsSize) × (0 < e .account .next) × (e .account .outstanding + requiredBy request count ≤ 4094) ⌝ }
+    ensures { λ r. ⌜ (r, now (records .exit)) ≡ takenWith e (now (records .entry)) request count ⌝ }
+{
+    let number = record_taken(e.account.occupancy);
+    let taken = ids::free_id(records, e.account.occupancy, e.account.next);
+    let v = requests::record_for(request, count, taken.id, e.at.place);
+    table::records::put_record(records, number, v);
+    Begun {
+        endpoint: started(e, taken.next, number, request, count),
+        kept: v,
+    }
+}
+
+// All that an admitted submission takes and writes.
+pub fn begin(
+    e: Endpoint,
+    records: &mut [u64],
+    packets: &mut [u64],
+    request: Request,
+    lengths: &[u64],
+) -> Endpoint
+    requires { ⌜ Admitted e (length (now records)) (length (now packets)) request (length (now lengths)) ⌝ }
+    ensures { λ r. ⌜ (r, now (records .exit), now (packets .exit)) ≡ begunWith e (now (records .entry)) (now (packets .entry)) request (now (lengths .entry)) ⌝ }
+{
+    let begun = take(e, records, request, lengths.len());
+    let number = record_taken(e.account.occupancy);
+    write_packets(packets, number, request, lengths);
+    begun.endpoint
+}

@@ -2,10 +2,9 @@
 use Prim.Native.Nat.{ℕ, _+_, _*_, _≤_, _<_}
 use mathlib.Core.List.{List}
 use mathlib.Core.Logic.{⊎-elim}
-use mathlib.Core.Path.{_≡_, refl, sym, ap, _∙_}
+use mathlib.Core.Path.{_≡_, refl}
 use native.Mathlib.Omega.{arith}
 use lib.ListN.{length, getD}
-use Rattle.base.specs.Part.{put}
 use Rattle.base.proofs.Compare.{compared}
 use Rattle.base.proofs.Lent.{put-length, put-same, put-before, put-behind}
 use Rattle.trb.specs.Layouts.{listed, wordsAt, putWords}

@@ -1,12 +1,12 @@
 -- The standard's cycle rule on the words of our TRBs: any TRB but a link leads one slot on, a toggling link to the base leads to slot 0 with the
 -- state toggled, and a consumer owns a TRB exactly where the cycle bit that it was given is the consumer's state. Assumes nothing.
 use Prim.Native.Nat.{ℕ, _+_, _-_, _/_, _%_, _^_, _<_}
-use mathlib.Core.Bool.{Bool, true, false, not, Bool·beq}
-use mathlib.Core.Path.{_≡_, refl, sym, ap, _∙_}
+use mathlib.Core.Bool.{Bool, true, not, Bool·beq}
+use mathlib.Core.Path.{_≡_, sym, _∙_}
 use native.Mathlib.Omega.{arith}
 use borrow.Author.Tests.{eq-eqb, ne-eqb}
 use Rattle.trb.specs.Layouts.{wordsOf, kindOf}
-use Rattle.trb.specs.Cycle.{Pointer, past, owned, typeOf, toggles, pointsTo}
+use Rattle.trb.specs.Cycle.{Pointer, past, owned, typeOf}
 use Rattle.trb.specs.declared.Trb.{Trb}
 use Rattle.trb.specs.declared.Trb.the-variants.{Link}
 use Rattle.trb.proofs.LayoutLaws.{cycle-is, type-is, toggle-is, points}

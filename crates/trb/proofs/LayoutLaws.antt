@@ -1,8 +1,8 @@
 -- Of every TRB, with every value and either cycle bit: the fields of a word do not overlap and fit its 32 bits (`layouts-sound`, computed), so each
 -- field reads back from its word (`reads-back`), each word fits 32 bits, and cycle bit and type are what was asked for. Assumes nothing.
-use Prim.Native.Nat.{ℕ, zero, suc, _+_, _*_, _/_, _%_, _^_, _<_}
-use mathlib.Core.Bool.{Bool, true, false, _&&_, and-eq-true-iff}
-use mathlib.Core.List.{List, [], _∷_}
+use Prim.Native.Nat.{ℕ, zero, suc, _/_, _%_, _^_, _<_}
+use mathlib.Core.Bool.{Bool, true, _&&_, and-eq-true-iff}
+use mathlib.Core.List.{List, []}
 use mathlib.Core.Path.{_≡_, refl, ap, _∙_, subst}
 use native.Mathlib.Nat.{mod-eq-of-lt}
 use native.Mathlib.Omega.{arith}
@@ -12,7 +12,6 @@ use Rattle.base.specs.Fields.{Field, field, flag, word, bits, rising}
 use Rattle.base.proofs.ReadBack.{read-back, word-below, flag-read}
 use Rattle.trb.specs.Layouts.{Layout, layout, wordsOf, listed, kindOf}
 use Rattle.trb.specs.Cycle.{cycleOf, typeOf, toggles, pointsTo}
-use Rattle.trb.specs.declared.Words.{Words}
 use Rattle.trb.specs.declared.Trb.{Trb}
 use Rattle.trb.specs.declared.Trb.the-variants.{Normal, Setup, Data, Status, Isoch, Link, ResetEndpoint, StopEndpoint, SetDequeue}
 

@@ -2,7 +2,7 @@
 -- consumer while its cycle bit equals the consumer's cycle state, and a producer stores a TRB with its own cycle state. Producer and consumer
 -- go on alike: past a Link TRB to where it points, with the state toggled where the link says so, and past any other TRB by one slot.
 use Prim.Native.Nat.{ℕ, _+_, _-_, _*_, _/_, _^_}
-use mathlib.Core.Bool.{Bool, true, false, not, Bool·beq}
+use mathlib.Core.Bool.{Bool, not, Bool·beq}
 use lib.Dec.{eqb}
 use Rattle.base.specs.First.{pick}
 use Rattle.base.specs.Fields.{bits}

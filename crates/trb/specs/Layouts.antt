@@ -1,7 +1,7 @@
 -- The layout of each TRB, field by field (offset, width, value), as the xHCI specification 1.2 has it in section 6.4. Bits that no field names
 -- are 0: reserved, or fields of the standard that the dock leaves 0. Document 01, "Words of a TRB".
 use Prim.Native.Nat.{ℕ, _+_, _*_, _/_, _^_}
-use mathlib.Core.Bool.{Bool, true, false}
+use mathlib.Core.Bool.{Bool, false}
 use mathlib.Core.List.{List, [], _∷_}
 use lib.ListN.{getD}
 use Rattle.base.specs.Fields.{Field, field, flag, word}

@@ -19,7 +19,7 @@ use Rattle.marking.specs.Marking.{nowhere, walked}
 use Rattle.marking.specs.Words.{sweptBy, keepOne, keepBelow}
 use Rattle.marking.proofs.KeepLaws.{below-same}
 use Rattle.marking.proofs.MirrorLaws.{mirrors-sweep}
-use Rattle.walk.specs.Flying.{Flying}
+use Rattle.completing.specs.Flying.{Flying}
 use Rattle.walk.specs.Loaded.{loaded}
 
 module _ (l : List ℕ) (number : ℕ) where

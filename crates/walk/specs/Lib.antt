@@ -1,4 +1,3 @@
 -- What the contracts of `walk` cite beside the definitions of the dock and of `marking`.
-pub mod Flying
 pub mod Loaded
 pub mod Values

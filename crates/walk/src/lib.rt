@@ -8,7 +8,7 @@ ghost use Rattle.table.specs.Packets.{packetCount};
 ghost use Rattle.dock.specs.Reclaim.{total, sweep, reclaimIso};
 ghost use Rattle.marking.specs.Marking.{nowhere};
 ghost use Rattle.marking.specs.Words.{sweptBy, keepOne, keepBelow};
-ghost use Rattle.walk.specs.Flying.{Flying};
+ghost use Rattle.completing.specs.Flying.{Flying};
 ghost use Rattle.walk.specs.Loaded.{loaded};
 ghost use Rattle.walk.specs.Values.{sweptOf};
 use dock::Endpoint;
@@ -20,8 +20,8 @@ use marking::Standing;
 use table::packets::PACKETS;
 use table::packets::Packet;
 use table::records::Record;
-use worth::complete::completed;
-use worth::complete::unfinished;
+use completing::completed;
+use completing::unfinished;
 
 // How a walk over packets ended: with nothing told yet, at a refused code, or at the last packet.
 pub enum Walk {

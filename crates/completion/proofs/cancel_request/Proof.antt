@@ -4,7 +4,7 @@ use borrow.Author.Needs.{needs}
 use borrow.Author.Tests.{ne-eqb}
 use denote.Ref.{now}
 use Rattle.dock.specs.Cancel.{cancelNo, cancel}
-use Rattle.completion.proofs.CallLaws.{cancel-sized}
+use Rattle.refusal.proofs.CallLaws.{cancel-sized}
 use Rattle.completion.proofs.cancel_request.Statement.{statement}
 use Rattle.completion.proofs.cancel_request.Tie as tie
 

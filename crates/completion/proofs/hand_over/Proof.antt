@@ -6,7 +6,7 @@ use borrow.Author.Tests.{ne-eqb}
 use denote.Ref.{now}
 use lib.ListN.{length}
 use Rattle.dock.specs.HandOver.{handOverNo, handOver}
-use Rattle.completion.proofs.CallLaws.{handed}
+use Rattle.refusal.proofs.CallLaws.{handed}
 use Rattle.completion.proofs.hand_over.Statement.{statement}
 use Rattle.completion.proofs.hand_over.Tie as tie
 

@@ -3,7 +3,7 @@ use mathlib.Core.Path.{sym, ap, _∙_}
 use borrow.Author.Needs.{needs}
 use denote.Ref.{now}
 use Rattle.dock.specs.Cancel.{marked}
-use Rattle.completion.proofs.CallLaws.{found-within}
+use Rattle.refusal.proofs.CallLaws.{found-within}
 use Rattle.completion.proofs.mark.Statement.{statement}
 use Rattle.completion.proofs.mark.Tie as tie
 

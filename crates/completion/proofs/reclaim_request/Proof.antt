@@ -9,9 +9,9 @@ use Rattle.dock.specs.Reclaim.{badRecord, reclaimNo, reclaimFound, reclaim}
 use Rattle.dock.specs.declared.ReclaimedOne.{ReclaimedOne}
 use Rattle.ids.specs.Lookup.{findIn}
 use Rattle.completion.specs.Parts.{reclaimAt}
-use Rattle.completion.proofs.CallLaws.{found-within, bad-found, reclaimable}
+use Rattle.refusal.proofs.CallLaws.{found-within, bad-found, reclaimable}
 use Rattle.ids.specs.declared.Lookup.{Lookup}
-use Rattle.completion.specs.Sizes.{Sizes}
+use Rattle.refusal.specs.Sizes.{Sizes}
 use Rattle.completion.proofs.reclaim_request.Statement.{statement}
 use Rattle.completion.proofs.reclaim_request.Tie as tie
 

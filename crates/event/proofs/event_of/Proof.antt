@@ -1,6 +1,5 @@
 -- `event::event_of` meets its contract: the fields are what the divisions give. Assumes nothing.
 use native.Mathlib.Nat.{div-one}
-use native.Mathlib.Omega.{arith}
 use borrow.Author.Needs.{needs}
 use Rattle.event.proofs.event_of.Statement.{statement}
 use Rattle.event.proofs.event_of.Tie as tie

@@ -9,8 +9,8 @@ use Rattle.dock.specs.declared.Changed.{Changed}
 use Rattle.dock.specs.declared.Endpoint.{Endpoint}
 use Rattle.dock.specs.declared.Outcome.the-variants.{Done}
 use Rattle.dock.specs.Start.{startNo, start}
-use Rattle.starting.specs.Counts.{begunWith}
-use Rattle.starting.proofs.StartLaws.{admitted}
+use Rattle.starting.specs.Taken.{begunWith}
+use Rattle.admission.proofs.StartLaws.{admitted}
 use borrow.Author.Needs.{needs}
 use Rattle.building.proofs.start.start_request.Statement.{statement}
 use Rattle.building.proofs.start.start_request.Tie as tie

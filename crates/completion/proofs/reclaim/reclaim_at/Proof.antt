@@ -6,8 +6,9 @@ use borrow.Author.Tests.{eq-eqb, ne-eqb}
 use Rattle.table.specs.Packets.{packetCount}
 use Rattle.table.specs.Records.{isoch}
 use Rattle.table.specs.declared.records.Record.{Record}
-use Rattle.completion.specs.Parts.{misplaced, reclaimAt}
-use Rattle.completion.proofs.CallLaws.{well-placed}
+use Rattle.refusal.specs.Misplaced.{misplaced}
+use Rattle.completion.specs.Parts.{reclaimAt}
+use Rattle.refusal.proofs.CallLaws.{well-placed}
 use Rattle.completion.proofs.reclaim.reclaim_at.Statement.{statement}
 use Rattle.completion.proofs.reclaim.reclaim_at.Tie as tie
 

@@ -1,6 +1,6 @@
 -- `put_isoch` meets its contract: no packets are one of length 0. Assumes nothing.
 use denote.Ref.{now}
-use Rattle.starting.proofs.LengthLaws.{none-given, some-given}
+use Rattle.requests.proofs.LengthLaws.{none-given, some-given}
 use borrow.Author.Needs.{needs}
 use Rattle.sending.proofs.isoch.put_isoch.Statement.{statement}
 use Rattle.sending.proofs.isoch.put_isoch.Tie as tie

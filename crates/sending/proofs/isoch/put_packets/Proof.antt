@@ -9,7 +9,7 @@ use denote.Ref.{now}
 use lib.ListN.{length}
 use lib.Seq.{paste, paste-zero}
 use Rattle.bursts.specs.Bursts.{burstsOf}
-use Rattle.starting.proofs.LengthLaws.{copied, copied-length}
+use Rattle.requests.proofs.LengthLaws.{copied, copied-length}
 use Rattle.sending.specs.Sent.{allPut}
 use Rattle.sending.proofs.PutLaws.{leftFrom, packet-next, packets-done, all-left}
 use Rattle.sending.proofs.isoch.put_packets.Statement.{statement}

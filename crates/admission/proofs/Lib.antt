@@ -1,0 +1,2 @@
+-- The laws of `admission`.
+pub mod StartLaws

@@ -1,0 +1,155 @@
+// The refusals of a submission's start, in order. Every test takes any input: no sum is made before its parts are tested.
+ghost use mathlib.Core.Path.{_≡_};
+ghost use mathlib.Core.Bool.{not, _&&_, _||_};
+ghost use Prim.Native.Nat.{_-_};
+ghost use lib.Dec.{eqb, ltb};
+ghost use lib.ListN.{length};
+ghost use Rattle.mask.specs.Compute.{lowestClear};
+ghost use Rattle.table.specs.Packets.{packetCount};
+ghost use Rattle.dock.specs.Limits.{packetsSize};
+ghost use Rattle.dock.specs.Fit.{fitsWith};
+ghost use Rattle.dock.specs.Requests.{addressOf, lengthOf};
+ghost use Rattle.dock.specs.Start.{crowded, sumOf, someOver, tooLong, isFull, beyond, startNo};
+ghost use Rattle.requests.specs.Counts.{requiredBy};
+use dock::Endpoint;
+use dock::Request;
+use mask::Found;
+
+// "Data length: bulk, interrupt or one packet at most 65,536; control at most 65,535."
+const LONGEST: u64 = 65536;
+
+const LONGEST_CONTROL: u64 = 65535;
+
+// Row 1: the endpoint, its records and its packets fit.
+fn is_unfit(e: Endpoint, records: &[u64], packets: usize) -> bool
+    ensures { λ r. ⌜ r ≡ not (fitsWith e (now (records .entry)) && eqb packets packetsSize) ⌝ }
+{
+    if !checks::fits_with(e, records) {
+        return true;
+    }
+    packets != checks::PACKETS_SIZE
+}
+
+// L-2: what a ring of so many slots takes at most.
+fn most_of(slots: usize) -> u64
+    ensures { λ r. ⌜ r ≡ slots - 2 ⌝ }
+{
+    if slots < 2 {
+        return 0;
+    }
+    (slots - 2) as u64
+}
+
+// Row 2, capacity: "outstanding + required above L-2".
+fn is_crowded(e: Endpoint, request: Request, count: usize) -> bool
+    ensures { λ r. ⌜ r ≡ crowded (e .shape .slots) (e .account .outstanding) (requiredBy request count) ⌝ }
+{
+    let most = most_of(e.shape.slots);
+    let more = requests::required_of(request, count);
+    if most < more {
+        return true;
+    }
+    if most - more < e.account.outstanding {
+        return true;
+    }
+    false
+}
+
+// Row 3 of an ISO request: "over 64 packets, or sum over buffer", or one packet too long.
+fn is_over(size: u64, lengths: &[u64]) -> bool
+    ensures { λ r. ⌜ r ≡ (ltb packetCount (length (now (lengths .entry))) || someOver (now (lengths .entry)) || ltb size (sumOf (now (lengths .entry)))) ⌝ }
+{
+    if table::packets::PACKETS < lengths.len() {
+        return true;
+    }
+    let mut sum: u64 = 0;
+    let mut i: usize = 0;
+    while i < lengths.len() {
+        let n = lengths[i];
+        if LONGEST < n {
+            return true;
+        }
+        sum += n;
+        i += 1;
+    }
+    size < sum
+}
+
+// Row 3: "a data length limit above broken, over 64 packets, or sum over buffer".
+fn is_too_long(request: Request, lengths: &[u64]) -> bool
+    ensures { λ r. ⌜ r ≡ tooLong request (now (lengths .entry)) ⌝ }
+{
+    match request {
+        Request::Control {
+            kind: _,
+            request: _,
+            value: _,
+            index: _,
+            address: _,
+            length,
+        } => LONGEST_CONTROL < length,
+        Request::Bulk {
+            incoming: _,
+            address: _,
+            length,
+        } => LONGEST < length,
+        Request::Interrupt {
+            incoming: _,
+            address: _,
+            length,
+        } => LONGEST < length,
+        Request::Isoch {
+            incoming: _,
+            address: _,
+            length,
+        } => is_over(length, lengths),
+    }
+}
+
+// Row 4: "all 64 records taken".
+fn is_full(occupancy: u64) -> bool
+    ensures { λ r. ⌜ r ≡ isFull (lowestClear occupancy) ⌝ }
+{
+    let found = mask::lowest_clear(occupancy);
+    match found {
+        Found::At(_) => false,
+        Found::Full => true,
+    }
+}
+
+// Row 5: "length above 0 and (address > mask or address + length > mask), the sum exact".
+fn is_beyond(mask: u64, request: Request) -> bool
+    ensures { λ r. ⌜ r ≡ beyond mask (addressOf request) (lengthOf request) ⌝ }
+{
+    let address = requests::address_of(request);
+    let length = requests::length_of(request);
+    if length == 0 {
+        return false;
+    }
+    if mask < address {
+        return true;
+    }
+    if mask - address < length {
+        return true;
+    }
+    false
+}
+
+// "Order: 1, 12, then for a submission 2 (reset), 2 (capacity), 3, 4, 5."
+pub fn start_no(
+    e: Endpoint,
+    records: &[u64],
+    packets: usize,
+    request: Request,
+    lengths: &[u64],
+) -> u32
+    ensures { λ r. ⌜ r ≡ startNo e (now (records .entry)) packets request (now (lengths .entry)) ⌝ }
+{
+    let no = base::earlier(0, is_unfit(e, records, packets), 1);
+    let no = base::earlier(no, e.work.busy, 12);
+    let no = base::earlier(no, e.flags.reset, 2);
+    let no = base::earlier(no, is_crowded(e, request, lengths.len()), 2);
+    let no = base::earlier(no, is_too_long(request, lengths), 3);
+    let no = base::earlier(no, is_full(e.account.occupancy), 4);
+    base::earlier(no, is_beyond(e.who.mask, request), 5)
+}

@@ -1,0 +1,2 @@
+-- What the contracts of the crates that complete a request cite.
+pub mod Flying

@@ -1,3 +1,0 @@
--- The laws of the calls' tests and of a control request's stages.
-pub mod CallLaws
-pub mod StageLaws

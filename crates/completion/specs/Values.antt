@@ -1,9 +1,0 @@
--- What a stage of a control request leaves to do, as the dock's definition has it.
-use Rattle.dock.specs.Reclaim.{Seen, onward, ends}
-use Rattle.completion.specs.declared.control.Stage.{Stage}
-use Rattle.completion.specs.declared.control.Stage.the-variants.{Onward, Ends}
-
--- The later stages, or nothing more.
-abbrev pub seenOf : Stage → Seen
-seenOf Onward = onward
-seenOf (Ends r) = ends r

@@ -1,0 +1,2 @@
+-- The laws of `refusal`.
+pub mod CallLaws

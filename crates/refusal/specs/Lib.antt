@@ -1,0 +1,3 @@
+-- What the contracts of `refusal` cite.
+pub mod Misplaced
+pub mod Sizes

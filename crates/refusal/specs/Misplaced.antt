@@ -1,0 +1,12 @@
+-- The test of a record that is reclaimed.
+use Prim.Native.Nat.{ℕ, _+_}
+use mathlib.Core.Bool.{Bool, _&&_, _||_}
+use lib.Dec.{eqb, leb, ltb}
+use Rattle.table.specs.Packets.{packetCount}
+use Rattle.table.specs.Records.{isoch, inFlight}
+use Rattle.table.specs.declared.finished.Finished.the-variants as place
+use Rattle.table.specs.declared.records.Record.{Record}
+
+-- A record in flight "with a place above L-2 or over 64 packets".
+unfoldable pub misplaced : ℕ → Record → Bool
+misplaced slots v = eqb (v .state) inFlight && (leb slots (v .place + 1) || (eqb (v .kind) isoch && ltb packetCount (v .count)))

@@ -1,0 +1,2 @@
+-- The laws of `requests`.
+pub mod LengthLaws

@@ -1,0 +1,2 @@
+-- The laws of `stages`.
+pub mod StageLaws

@@ -1,0 +1,24 @@
+-- `stages::control::status_by` meets its contract: each arm is the definition at that place. Assumes nothing.
+use borrow.Author.Needs.{needs}
+use Rattle.stages.proofs.control.status_by.Statement.{statement}
+use Rattle.stages.proofs.control.status_by.Tie as tie
+
+returns : tie.Need-returns
+returns c = simp (c .before .enum-told .given .1, c .unfinished .ensures)
+
+returns-2 : tie.Need-returns-2
+returns-2 c = simp (c .before .before .before .before .before .f .given .1, c .completed .ensures, c .before .is-accepted .ensures, c .before .before .length-of .ensures, c .before .before .before .event-of .ensures)
+
+pub status-by-spec : {M : Type 1} → statement M
+status-by-spec =
+    tie.close
+    (tie.spec
+    (λ c. search needs)
+    (λ c κs. search needs)
+    (λ c. search needs)
+    (λ c κs. search needs)
+    (λ c κs. search needs)
+    (λ c κs. search needs)
+    (λ c κs. search needs)
+    returns
+    returns-2)

@@ -1,0 +1,3 @@
+-- What the contracts of `stages` cite.
+pub mod Parts
+pub mod Values

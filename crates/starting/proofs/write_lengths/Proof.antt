@@ -1,0 +1,31 @@
+-- `write_lengths` meets its contract: one word of 0, or the lengths copied. Assumes nothing.
+use native.Mathlib.Omega.{arith}
+use denote.Ref.{now}
+use lib.ListN.{length}
+use Prim.Native.Nat.{_*_, _<_}
+use Rattle.requests.proofs.LengthLaws.{none-given, some-given, one-stored}
+use borrow.Author.Needs.{needs}
+use Rattle.starting.proofs.write_lengths.Statement.{statement}
+use Rattle.starting.proofs.write_lengths.Tie as tie
+
+returns : tie.Need-returns
+returns c =
+    let a = c .before .before .before .args in
+    let room : 64 * a .number < length (now (a .packets)) = omega arith in
+    simp (none-given (now (a .lengths)) (c .if1 .taken)) (one-stored (now (a .packets)) (64 * a .number) room)
+
+returns-2 : tie.Need-returns-2
+returns-2 c = simp (some-given (now (c .before .before .before .before .before .before .before .args .lengths)) (c .before .before .before .before .if1 .left), c .before .before .copy-lengths .ensures)
+
+pub write-lengths-spec : {M : Type 1} → statement M
+write-lengths-spec =
+    tie.close
+    (tie.spec
+    (λ c. search needs)
+    (λ c. search needs)
+    (λ c. search needs)
+    (λ c. search needs)
+    returns
+    (λ c κs. search needs)
+    (λ c. search needs)
+    returns-2)
