@@ -13,7 +13,7 @@ use Rattle.mask.specs.Clear.{Answers}
 use Rattle.mask.specs.Compute.{lowestClear}
 use Rattle.mask.specs.declared.Found.the-variants.{At}
 use Rattle.mask.proofs.ComputeLaws.{lowest-answers}
-use Rattle.table.specs.Packets.{packetCount}
+use Rattle.packets.specs.Packets.{packetCount}
 use Rattle.dock.specs.Fit.{fitsWith}
 use Rattle.dock.specs.Limits.{packetsSize}
 use Rattle.dock.specs.Requests.{required, recordFor}

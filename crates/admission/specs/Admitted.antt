@@ -1,7 +1,7 @@
 -- What the start of a submission needs of its tests, as facts on numbers.
 use Prim.Native.Nat.{ℕ, _+_, _≤_, _<_}
 use mathlib.Core.Path.{_≡_}
-use Rattle.table.specs.Packets.{packetCount}
+use Rattle.packets.specs.Packets.{packetCount}
 use Rattle.dock.specs.Limits.{recordsSize, packetsSize}
 use Rattle.dock.specs.declared.Endpoint.{Endpoint}
 use Rattle.dock.specs.declared.Request.{Request}

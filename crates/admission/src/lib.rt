@@ -5,7 +5,7 @@ ghost use Prim.Native.Nat.{_-_};
 ghost use lib.Dec.{eqb, ltb};
 ghost use lib.ListN.{length};
 ghost use Rattle.mask.specs.Compute.{lowestClear};
-ghost use Rattle.table.specs.Packets.{packetCount};
+ghost use Rattle.packets.specs.Packets.{packetCount};
 ghost use Rattle.dock.specs.Limits.{packetsSize};
 ghost use Rattle.dock.specs.Fit.{fitsWith};
 ghost use Rattle.dock.specs.Requests.{addressOf, lengthOf};
@@ -59,7 +59,7 @@ fn is_crowded(e: Endpoint, request: Request, count: usize) -> bool
 fn is_over(size: u64, lengths: &[u64]) -> bool
     ensures { λ r. ⌜ r ≡ (ltb packetCount (length (now (lengths .entry))) || someOver (now (lengths .entry)) || ltb size (sumOf (now (lengths .entry)))) ⌝ }
 {
-    if table::packets::PACKETS < lengths.len() {
+    if packets::PACKETS < lengths.len() {
         return true;
     }
     let mut sum: u64 = 0;

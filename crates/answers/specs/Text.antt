@@ -1,12 +1,11 @@
 -- The lines that each answer is written as. Document 01, "A session is lines of text" and the session behind it; a drive's words are in docs/DRIVE.md.
 use Prim.Native.Nat.{ℕ, zero, suc, _+_, min}
-use mathlib.Core.Bool.{Bool, true, false}
 use mathlib.Core.List.{List, [], _∷_, _++_}
 use lib.Dec.{ltb}
 use Rattle.base.specs.First.{pick}
 use Rattle.trb.specs.Layouts.{wordsAt}
 use Rattle.trb.specs.declared.Words.{Words}
-use Rattle.table.specs.Packets.{packetCount, packetAt}
+use Rattle.packets.specs.Packets.{packetCount, packetAt}
 use Rattle.lines.specs.Page.{decimalField, hexField, flagField, newline}
 use Rattle.controller.specs.declared.Consumer.{Consumer}
 use Rattle.dock.specs.declared.Completion.{Completion}

@@ -2,8 +2,8 @@
 ghost use mathlib.Core.Path.{_≡_};
 ghost use Prim.Native.Nat.{_<_, min};
 ghost use Rattle.lines.specs.Page.{putAll};
-ghost use Rattle.table.specs.Packets.{packetCount};
-ghost use Rattle.answers.specs.Text.{noText, wordLine, numberLine, noLine, failedLine, wordsText, slotLine, bellLine, outcomeLine, cutLine, storedLines};
+ghost use Rattle.packets.specs.Packets.{packetCount};
+ghost use Rattle.answers.specs.Text.{wordLine, numberLine, noLine, failedLine, wordsText, slotLine, bellLine, outcomeLine, cutLine, storedLines};
 ghost use Rattle.answers.specs.Text.{submittedLine, takenLine, countedAt, lengthsText, doneLine, reclaimedLine, commandLine, resettingLines};
 ghost use Rattle.answers.specs.Text.{commandedLine, pointedLine, stateRest, stateLine, standsLine, badText};
 use controller::Consumer;
@@ -153,7 +153,7 @@ fn counted(packets: &[u64], number: usize, k: usize) -> u64
     if packets.len() <= at {
         return 0;
     }
-    table::packets::packet_of(packets[at]).actual as u64
+    packets::packet_of(packets[at]).actual as u64
 }
 
 // The lengths of a request's packets, one behind the other.

@@ -1,14 +1,14 @@
 -- Laws of a block of a list, over its width: a block that was lent and came back, a block that was stored number by number, and what is
 -- read in the list afterwards. Assumes nothing.
-use Prim.Native.Nat.{ℕ, zero, suc, _+_, _-_, _*_, _<_, _≤_, min}
+use Prim.Native.Nat.{ℕ, suc, _+_, _-_, _*_, _<_, _≤_, min}
 use mathlib.Core.Bool.{Bool}
-use mathlib.Core.List.{List, [], _∷_, _++_, append-nil, append-assoc}
+use mathlib.Core.List.{List, [], _++_, append-nil, append-assoc}
 use mathlib.Core.Logic.{⊎-elim}
-use mathlib.Core.Path.{_≡_, refl, sym, ap, _∙_}
+use mathlib.Core.Path.{_≡_, sym, ap, _∙_}
 use native.Mathlib.Nat.{mul-le-mul-left, mul-suc}
 use native.Mathlib.Omega.{arith}
 use borrow.Author.Tests.{eq-eqb}
-use lib.ListN.{length, getD, set, take, drop, length-append, length-take, length-drop, List·getD-append, drop-of-length-le}
+use lib.ListN.{length, getD, take, drop, length-append, length-take, length-drop, List·getD-append, drop-of-length-le}
 use lib.Seq.{sets, sets-eq, length-take-le, drop-drop, getD-take, getD-drop, getD-append-add, ext-getD}
 use Rattle.base.specs.Part.{filled, blockOf, put}
 use Rattle.base.proofs.Compare.{compared}

@@ -1,6 +1,6 @@
 -- A field that was put into a word is read back from its bits: once, for every list of fields in rising order.
 use Prim.Native.Nat.{ℕ, zero, suc, _+_, _*_, _-_, _/_, _%_, _^_, _<_, _≤_}
-use mathlib.Core.Bool.{Bool, true, false, _&&_, and-eq-true-iff}
+use mathlib.Core.Bool.{Bool, true, false, and-eq-true-iff}
 use mathlib.Core.List.{List, [], _∷_}
 use mathlib.Core.Path.{_≡_, refl, sym, ap, _∙_}
 use native.Mathlib.Nat.{mul-assoc, mul-comm, add-comm, mod-lt, mod-eq-of-lt, add-mul, sub-add-cancel, lt-of-mul-lt-mul-right, mul-le-mul-right, suc-mul}
@@ -8,7 +8,7 @@ use native.Mathlib.Omega.{arith}
 use borrow.Author.Tests.{leb-true}
 use lib.Dec.{leb, eqb}
 use lib.ListN.{length, getD}
-use lib.Pow.{pow-add, pow-pos, pow-mono, low, high, shl-lt, shl-shr, shr-shr}
+use lib.Pow.{pow-add, pow-pos, low, high, shl-lt, shl-shr, shr-shr}
 use Rattle.base.specs.Fields.{Field, field, flag, word, bits, rising}
 
 -- A multiple of a higher power is one of a lower.

@@ -1,3 +1,2 @@
 -- The laws that the proofs of `building` share.
 pub mod SubmitLaws
-pub mod ZeroLaws

@@ -1,34 +1,31 @@
 -- The whole submission: its refusals, and what an admitted one leaves. Assumes nothing.
-use Prim.Native.Nat.{ℕ, _<_, _≤_}
-use mathlib.Core.Bool.{Bool, true, false, _&&_, and-eq-true-iff, false≢true}
+use Prim.Native.Nat.{ℕ, _≤_}
+use mathlib.Core.Bool.{Bool, true, false, _&&_, and-eq-true-iff}
 use mathlib.Core.List.{List}
 use mathlib.Core.Logic.{⊎-elim}
 use mathlib.Core.Path.{_≡_, sym, ap, subst, _∙_}
 use native.Mathlib.Omega.{arith}
-use borrow.Author.Tests.{eqb-true, eqb-false, eq-eqb, ne-eqb}
+use borrow.Author.Tests.{eqb-true}
 use lib.Dec.{eqb}
 use lib.ListN.{length}
-use Rattle.base.specs.First.{pick}
-use Rattle.ids.specs.Free.{recordCount}
 use Rattle.ids.proofs.AnyLaws.{true-or-false}
-use Rattle.table.specs.Packets.{packetCount}
-use Rattle.table.specs.Records.{isoch}
-use Rattle.table.specs.declared.records.Record.{Record}
+use Rattle.packets.specs.Packets.{packetCount}
+use Rattle.records.specs.Records.{isoch}
+use Rattle.records.specs.declared.Record.{Record}
 use Rattle.dock.specs.declared.Endpoint.{Endpoint}
 use Rattle.dock.specs.declared.Request.{Request}
 use Rattle.dock.specs.declared.Request.the-variants.{Control, Bulk, Interrupt, Isoch}
 use Rattle.dock.specs.declared.StoredAll.{StoredAll}
 use Rattle.dock.specs.declared.Submitted.the-variants as submitted
-use Rattle.dock.specs.Limits.{ringSize, recordsSize}
+use Rattle.dock.specs.Limits.{ringSize}
 use Rattle.dock.specs.Requests.{recordFor}
-use Rattle.dock.specs.Start.{startNo, tooLong, idTaken, recordTaken, startedEndpoint, startedRecords}
-use Rattle.dock.specs.Submit.{submit, finish, mostStores}
+use Rattle.dock.specs.Start.{startNo, tooLong, idTaken, startedEndpoint, startedRecords}
+use Rattle.dock.specs.Submit.{submit}
 use Rattle.dock.proofs.RefusalLaws.{submit-acts, submit-refuses, submit-misfits}
 use Rattle.dock.proofs.AskedLaws.{few-packets}
 use Rattle.dock.proofs.StartLaws.{start-admitted, record-below}
 use Rattle.dock.proofs.StartedLaws.{place-low}
 use Rattle.admission.specs.Admitted.{Admitted}
-use Rattle.requests.specs.Counts.{requiredBy}
 use Rattle.starting.specs.Taken.{takenWith}
 use Rattle.starting.specs.declared.Begun.{Begun}
 use Rattle.admission.proofs.StartLaws.{admitted}

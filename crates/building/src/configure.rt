@@ -29,7 +29,7 @@ pub fn configure_periodic(e: Endpoint, packet: u16, burst: u8, interval: u8) -> 
     let settings = Periodic {
         packet,
         burst,
-        interval: storing::act::at_least_one(interval),
+        interval: steps::at_least_one(interval),
         frame: e.periodic.frame,
     };
     Changed {

@@ -14,12 +14,12 @@ pub fn next_store(
 ) -> StoredOne
     ensures { λ r. ⌜ (r, now (ring .exit), now (finished .exit)) ≡ store e (now (ring .entry)) (now (finished .entry)) (now (records .entry)) (now (packets .entry)) ⌝ }
 {
-    let no = storing::act::store_no(e, ring.len(), finished.len(), records, packets.len());
+    let no = storing::store_no(e, ring.len(), finished.len(), records, packets.len());
     if no != 0 {
         return StoredOne {
             answer: Stored::Refused(no),
             endpoint: e,
         };
     }
-    storing::act::store_one(e, ring, finished, records, packets)
+    storing::store_one(e, ring, finished, records, packets)
 }

@@ -1,7 +1,6 @@
 // The whole submission, proved equal to the start and its stores in order. Each table is touched once: the tests read, then the record is written, then
 // each packet's length is read, written to its record and stored in its TRB.
 ghost use mathlib.Core.Path.{_≡_};
-ghost use lib.ListN.{length};
 ghost use Rattle.dock.specs.Submit.{submit};
 ghost use Rattle.building.specs.Numbers.{submitNo};
 use dock::Endpoint;
@@ -21,10 +20,10 @@ fn submit_no(
 ) -> u32
     ensures { λ r. ⌜ r ≡ submitNo e ring finished (now (records .entry)) packets request (now (lengths .entry)) ⌝ }
 {
-    if !checks::is_sized(ring, e.shape.slots) {
+    if !limits::is_sized(ring, e.shape.slots) {
         return 1;
     }
-    if !checks::is_sized(finished, e.shape.slots) {
+    if !limits::is_sized(finished, e.shape.slots) {
         return 1;
     }
     admission::start_no(e, records, packets, request, lengths)
@@ -59,5 +58,5 @@ pub fn submit_request(
     let begun = starting::take(e, records, request, lengths.len());
     let at = begun.endpoint;
     let v = begun.kept;
-    sending::whole::send(at, v, ring, finished, packets, lengths)
+    sending::send(at, v, ring, finished, packets, lengths)
 }

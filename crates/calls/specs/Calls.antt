@@ -4,11 +4,9 @@ use mathlib.Core.Bool.{Bool, true, false}
 use mathlib.Core.List.{List, [], _∷_}
 use Rattle.base.specs.First.{pick}
 use Rattle.dock.specs.declared.Changed.{Changed}
-use Rattle.dock.specs.declared.Command.{Command}
 use Rattle.dock.specs.declared.Endpoint.{Endpoint}
 use Rattle.dock.specs.declared.Outcome.{Outcome}
 use Rattle.dock.specs.declared.Outcome.the-variants as outcome
-use Rattle.dock.specs.declared.Pointed.{Pointed}
 use Rattle.dock.specs.declared.ReclaimedOne.{ReclaimedOne}
 use Rattle.dock.specs.declared.Request.{Request}
 use Rattle.dock.specs.declared.ResetBegun.{ResetBegun}

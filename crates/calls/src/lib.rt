@@ -1,11 +1,11 @@
 // The calls that a line makes, each with what it writes.
 ghost use mathlib.Core.Path.{_≡_};
-ghost use Prim.Native.Nat.{_%_, _^_};
+ghost use Prim.Native.Nat.{_%_};
 ghost use lib.ListN.{length};
 ghost use Rattle.dock.specs.Make.{make};
 ghost use Rattle.calls.specs.Values.{value, byte, half, word, requestOf, lengthsOf, eventOf, openingOf};
 ghost use Rattle.calls.specs.Calls.{configured, ended, stopped, resumed, pointed, reset, handed, cancelled, retired, reclaimed, begun};
-ghost use Rattle.calls.specs.Calls.{goesOn, storedOne, stores, mostStores, asked, submitted};
+ghost use Rattle.calls.specs.Calls.{goesOn, storedOne, stores, asked, submitted};
 use dock::Changed;
 use dock::Endpoint;
 use dock::Outcome;
@@ -172,7 +172,7 @@ pub fn made(
     let mask = value(values, 2);
     let slot = byte(value(values, 3));
     let dci = byte(value(values, 4));
-    building::make::make(
+    making::make(
         ring,
         finished,
         records,
@@ -405,7 +405,7 @@ pub fn cancelled(e: Endpoint, records: &mut [u64], id: u64, out: &mut [u8], at: 
 pub fn retired(e: Endpoint, records: &mut [u64], out: &mut [u8], at: usize) -> Turn
     ensures { λ r. ⌜ (r, now (records .exit), now (out .exit)) ≡ retired e (now (records .entry)) (at, now (out .entry)) ⌝ }
 {
-    let r = stopping::retire_all_after_stop(e, records);
+    let r = retiring::retire_all_after_stop(e, records);
     let answer = r.answer;
     let end = answers::put_outcome(out, at, b"retired", answer);
     let next = r.endpoint;
@@ -455,7 +455,7 @@ pub fn pointed(e: Endpoint, out: &mut [u8], at: usize) -> Turn
 pub fn reset(e: Endpoint, records: &[u64], out: &mut [u8], at: usize) -> Turn
     ensures { λ r. ⌜ (r, now (out .exit)) ≡ reset e (now (records .entry)) (at, now (out .entry)) ⌝ }
 {
-    let b = stopping::begin_reset(e, records);
+    let b = resetting::begin_reset(e, records);
     let answer = b.answer;
     let end = answers::put_resetting(out, at, answer);
     let next = b.endpoint;
@@ -469,7 +469,7 @@ pub fn reset(e: Endpoint, records: &[u64], out: &mut [u8], at: usize) -> Turn
 pub fn ended(e: Endpoint, worked: bool, out: &mut [u8], at: usize) -> Turn
     ensures { λ r. ⌜ (r, now (out .exit)) ≡ ended e worked (at, now (out .entry)) ⌝ }
 {
-    let f = stopping::end_reset(e, worked);
+    let f = resetting::end_reset(e, worked);
     let answer = f.answer;
     let end = answers::put_outcome(out, at, b"ended", answer);
     let next = f.endpoint;

@@ -12,9 +12,9 @@ use Rattle.base.proofs.Decide.{if-so}
 use Rattle.dock.proofs.TestLaws.{Limits, PlaceFits, FirstFits, by-fits, by-fits-with}
 use Rattle.dock.specs.Limits.{recordsSize}
 use Rattle.base.specs.First.{pick}
-use Rattle.table.specs.Packets.{packetCount}
-use Rattle.table.specs.Records.{control, bulk, interrupt, isoch}
-use Rattle.table.specs.declared.records.Record.{Record}
+use Rattle.packets.specs.Packets.{packetCount}
+use Rattle.records.specs.Records.{control, bulk, interrupt, isoch}
+use Rattle.records.specs.declared.Record.{Record}
 use Rattle.dock.specs.Fit.{fits, theLink, theTrb, theSetup, none, nextOf, strays, fitsWith}
 use Rattle.dock.specs.Stores.{trbCount}
 use Rattle.dock.specs.declared.Endpoint.{Endpoint}

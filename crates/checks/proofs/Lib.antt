@@ -1,2 +1,3 @@
 -- What the shared tests say, as facts on numbers.
 pub mod Laws
+pub mod StandLaws

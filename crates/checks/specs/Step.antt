@@ -1,7 +1,4 @@
--- The next store as the code names it, and the two halves of `placesFit`.
-use Prim.Native.Nat.{ℕ, _+_}
-use mathlib.Core.Bool.{Bool, not, _&&_, _||_}
-use lib.Dec.{eqb, ltb}
+-- The next store as the code names it.
 use Rattle.dock.specs.Fit.{Next, theLink, theTrb, theSetup, none}
 use Rattle.checks.specs.declared.Next as code
 use Rattle.checks.specs.declared.Next.the-variants.{Link, Trb, Setup, Nothing}
@@ -12,11 +9,3 @@ named Link = theLink
 named Trb = theTrb
 named Setup = theSetup
 named Nothing = none
-
--- The place of the next store,
-unfoldable pub placeFits : ℕ → ℕ → Bool → ℕ → Bool
-placeFits slots place busy stored = ltb (place + 1) slots || (eqb (place + 1) slots && busy && ltb 0 stored)
-
--- and that of the setup of a submission under way.
-unfoldable pub setupFits : ℕ → Bool → ℕ → Bool
-setupFits slots busy place = not busy || ltb (place + 1) slots

@@ -4,16 +4,16 @@
 ghost use mathlib.Core.Path.{_≡_};
 ghost use mathlib.Core.Bool.{not, _&&_};
 ghost use Prim.Native.Nat.{_*_, _≤_, _<_};
-ghost use lib.Dec.{leb, eqb};
+ghost use lib.Dec.{leb};
 ghost use lib.ListN.{length};
-ghost use Rattle.dock.specs.Limits.{limitsHold, ringSize, recordsSize};
+ghost use Rattle.dock.specs.Limits.{recordsSize};
 ghost use Rattle.dock.specs.Stores.{trbCount};
 ghost use Rattle.dock.specs.Fit.{placesFit, fits, nextOf, isNone, strays, fitsWith};
 ghost use Rattle.dock.specs.Configure.{plainNo};
 ghost use Rattle.dock.specs.Retire.{recordNo};
-ghost use Rattle.checks.specs.Step.{named, placeFits, setupFits};
+ghost use Rattle.checks.specs.Step.{named};
 use dock::Endpoint;
-use table::records::Record;
+use records::Record;
 
 // The kinds of a request, as a record has them.
 pub const CONTROL: u64 = 0;
@@ -27,85 +27,22 @@ pub const ISOCH: u64 = 3;
 // The words of the tables of records and of packets.
 pub const RECORDS_SIZE: usize = ids::RECORD_COUNT * ids::RECORD_WORDS;
 
-pub const PACKETS_SIZE: usize = ids::RECORD_COUNT * table::packets::PACKETS;
-
-// "What a dock may hold": slots, base, slot id and dci.
-pub fn limits_hold(slots: usize, base: u64, slot: u8, dci: u8) -> bool
-    ensures { λ r. ⌜ r ≡ limitsHold slots base slot dci ⌝ }
-{
-    if slots < 3 {
-        return false;
-    }
-    if 4096 < slots {
-        return false;
-    }
-    if base % 4096 != 0 {
-        return false;
-    }
-    if u64::MAX - base < 16 * slots as u64 - 1 {
-        return false;
-    }
-    if dci < 1 {
-        return false;
-    }
-    if 31 < dci {
-        return false;
-    }
-    if slot < 1 {
-        return false;
-    }
-    true
-}
-
-// "Place above L-2 except L-1 just before the link's store": the place of the next store.
-fn stands(slots: usize, place: usize, busy: bool, stored: usize) -> bool
-    ensures { λ r. ⌜ r ≡ placeFits slots place busy stored ⌝ }
-{
-    if slots == 0 {
-        return false;
-    }
-    if place < slots - 1 {
-        return true;
-    }
-    if place != slots - 1 {
-        return false;
-    }
-    if !busy {
-        return false;
-    }
-    0 < stored
-}
-
-// The place of the setup that is to be stored again.
-fn setup_stands(slots: usize, busy: bool, place: usize) -> bool
-    ensures { λ r. ⌜ r ≡ setupFits slots busy place ⌝ }
-{
-    if !busy {
-        return true;
-    }
-    if slots == 0 {
-        return false;
-    }
-    if place < slots - 1 {
-        return true;
-    }
-    false
-}
+pub const PACKETS_SIZE: usize = ids::RECORD_COUNT * packets::PACKETS;
 
 pub fn places_fit(e: Endpoint) -> bool
     ensures { λ r. ⌜ r ≡ placesFit e ⌝ }
 {
-    if !stands(e.shape.slots, e.at.place, e.work.busy, e.work.stored) {
+    if !limits::stands(e.shape.slots, e.at.place, e.work.busy, e.work.stored) {
         return false;
     }
-    setup_stands(e.shape.slots, e.work.busy, e.work.place)
+    limits::setup_stands(e.shape.slots, e.work.busy, e.work.place)
 }
 
 // "L, base, dci or slot id outside the above, place above L-2 .., next id 0": none of it.
 pub fn fits(e: Endpoint) -> bool
     ensures { λ r. ⌜ r ≡ fits e ⌝ }
 {
-    if !limits_hold(e.shape.slots, e.shape.base, e.who.slot, e.who.dci) {
+    if !limits::limits_hold(e.shape.slots, e.shape.base, e.who.slot, e.who.dci) {
         return false;
     }
     if !places_fit(e) {
@@ -200,8 +137,8 @@ pub fn strays(e: Endpoint, records: &[u64]) -> bool
     if !mask::has_bit(e.account.occupancy, number) {
         return true;
     }
-    let v = table::records::record_at(records, number);
-    if v.state != table::records::IN_FLIGHT {
+    let v = records::record_at(records, number);
+    if v.state != records::IN_FLIGHT {
         return true;
     }
     is_past(e, v)
@@ -234,17 +171,4 @@ pub fn record_no(e: Endpoint, records: &[u64]) -> u32
 {
     let no = base::earlier(0, !fits_with(e, records), 1);
     base::earlier(no, e.work.busy, 12)
-}
-
-// A table of four words a slot has its size: the ring, the finished table.
-pub fn is_sized(words: usize, slots: usize) -> bool
-    ensures { λ r. ⌜ r ≡ eqb words (ringSize slots) ⌝ }
-{
-    if words % 4 != 0 {
-        return false;
-    }
-    if words / 4 != slots {
-        return false;
-    }
-    true
 }

@@ -2,7 +2,7 @@
 use Prim.Native.Nat.{ℕ, _+_, _*_, _≤_, _<_}
 use mathlib.Core.Path.{_≡_}
 use Rattle.ids.specs.Free.{recordCount}
-use Rattle.table.specs.declared.records.Record.{Record}
+use Rattle.records.specs.declared.Record.{Record}
 
 -- The finished table is that of the ring, the record's place one of its slots 0 to L-2, and the record one of the table's.
 pub record Flying (slots finished : ℕ) (v : Record) (number : ℕ) : Type 0 where

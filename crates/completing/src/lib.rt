@@ -13,7 +13,7 @@ use dock::Endpoint;
 use dock::Flags;
 use dock::Reclaimed;
 use dock::ReclaimedOne;
-use table::records::Record;
+use records::Record;
 
 // A length less what remains, or a count less another: the difference, not below 0.
 pub fn less(a: u64, b: u64) -> u64

@@ -2,7 +2,7 @@
 use Prim.Native.Nat.{ℕ}
 use mathlib.Core.List.{List}
 use Rattle.ids.specs.declared.Lookup.the-variants.{At}
-use Rattle.table.specs.declared.finished.Finished.the-variants as place
+use Rattle.finished.specs.declared.Finished.the-variants as place
 use Rattle.dock.specs.Reclaim.{reclaimFound}
 use Rattle.dock.specs.declared.Endpoint.{Endpoint}
 use Rattle.dock.specs.declared.ReclaimedOne.{ReclaimedOne}

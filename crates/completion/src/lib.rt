@@ -19,7 +19,7 @@ use dock::Reclaimed;
 use dock::ReclaimedOne;
 use dock::Taken;
 use ids::Lookup;
-use table::records::CANCELLED;
+use records::CANCELLED;
 
 mod reclaim;
 
@@ -32,7 +32,7 @@ pub fn hand_over(e: Endpoint, finished: &mut [u32], event: trb::Words) -> Taken
         return Taken::Refused(no);
     }
     let slot = refusal::place_for(e, event);
-    table::finished::set_finished(finished, slot, event);
+    finished::set_finished(finished, slot, event);
     Taken::Place(slot)
 }
 
@@ -68,7 +68,7 @@ fn mark(records: &mut [u64], occupancy: u64, id: u64)
     let found = ids::find_id(records, occupancy, id);
     match found {
         Lookup::Nothing => {}
-        Lookup::At(r) => table::records::set_word(records, r, CANCELLED, 1),
+        Lookup::At(r) => records::set_word(records, r, CANCELLED, 1),
     }
 }
 

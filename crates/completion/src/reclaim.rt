@@ -4,8 +4,8 @@ ghost use mathlib.Core.Bool.{false};
 ghost use Prim.Native.Nat.{_*_, _≤_, _<_};
 ghost use lib.ListN.{length};
 ghost use Rattle.ids.specs.Free.{recordCount, recordWords};
-ghost use Rattle.table.specs.Packets.{packetCount};
-ghost use Rattle.table.specs.Records.{isoch, recordAt};
+ghost use Rattle.packets.specs.Packets.{packetCount};
+ghost use Rattle.records.specs.Records.{isoch, recordAt};
 ghost use Rattle.dock.specs.Reclaim.{reclaimFlying};
 ghost use Rattle.completing.specs.Flying.{Flying};
 ghost use Rattle.refusal.specs.Sizes.{Sizes};
@@ -20,9 +20,9 @@ use checks::ISOCH;
 use dock::Endpoint;
 use dock::Reclaimed;
 use dock::ReclaimedOne;
-use table::records::IN_FLIGHT;
-use table::records::Record;
-use table::records::STOPPED;
+use records::IN_FLIGHT;
+use records::Record;
+use records::STOPPED;
 use walk::reclaim_iso;
 use completing::left;
 use completing::unfinished;
@@ -65,7 +65,7 @@ pub fn reclaim_at(
     requires { ⌜ (Sizes (e .shape .slots) (length (now finished)) (length (now records)) (length (now packets))) × (r < recordCount) × (misplaced (e .shape .slots) (recordAt (now records) r) ≡ false) ⌝ }
     ensures { λ o. ⌜ (o, now (records .exit), now (packets .exit)) ≡ reclaimAt r e (now (finished .entry)) (now (records .entry)) (now (packets .entry)) ⌝ }
 {
-    let v = table::records::record_at(records, r);
+    let v = records::record_at(records, r);
     if v.state == STOPPED {
         return ReclaimedOne {
             answer: Reclaimed::Cancelled,

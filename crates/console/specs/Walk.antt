@@ -1,11 +1,10 @@
 -- The controller's steps, as a drive takes and writes them.
 use Prim.Native.Nat.{ℕ, zero, suc, _/_}
-use mathlib.Core.Bool.{Bool, true, false}
+use mathlib.Core.Bool.{true, false}
 use mathlib.Core.List.{List, [], _∷_}
 use lib.Dec.{ltb}
 use lib.ListN.{length}
 use Rattle.base.specs.First.{pick}
-use Rattle.trb.specs.declared.Words.{Words}
 use Rattle.controller.specs.Rule.{step}
 use Rattle.controller.specs.declared.Consumer.{Consumer}
 use Rattle.controller.specs.declared.Step.{Step}

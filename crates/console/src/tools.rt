@@ -1,7 +1,5 @@
 // What a drive does besides the calls: it forges words, and steps the controller.
 ghost use mathlib.Core.Path.{_≡_};
-ghost use mathlib.Core.List.{List};
-ghost use Prim.Native.Nat.{ℕ};
 ghost use Rattle.console.specs.Serve.{withNext, forged};
 ghost use Rattle.console.specs.Walk.{stride, walk, walked};
 use controller::Consumer;

@@ -1,19 +1,19 @@
 -- The controller's rule is the standard's consumer rule (`Rattle.trb.specs.Cycle`, 4.9.2): it moves exactly where the TRB at its slot is its own, and
 -- then to the standard's pointer past that TRB, wherever a link leads to the ring's base and toggles. The ring's own link does. Assumes nothing.
-use Prim.Native.Nat.{ℕ, _+_, _-_, _/_, _%_, _^_, _<_}
-use mathlib.Core.Bool.{Bool, true, false, not}
+use Prim.Native.Nat.{ℕ, _-_, _/_, _%_, _^_, _<_}
+use mathlib.Core.Bool.{Bool, true, false}
 use mathlib.Core.List.{List}
-use mathlib.Core.Path.{_≡_, refl, sym, ap, _∙_}
+use mathlib.Core.Path.{_≡_, refl, ap}
 use native.Mathlib.Omega.{arith}
 use borrow.Author.Tests.{eqb-true}
 use lib.Dec.{eqb}
 use Rattle.base.specs.First.{pick}
-use Rattle.trb.specs.Cycle.{Pointer, owned, past, typeOf, toggles, pointsTo}
+use Rattle.trb.specs.Cycle.{owned, past, typeOf, toggles, pointsTo}
 use Rattle.trb.specs.Layouts.{wordsOf, wordsAt}
 use Rattle.trb.specs.declared.Words.{Words}
 use Rattle.trb.specs.declared.Trb.the-variants.{Link}
 use Rattle.trb.proofs.LayoutLaws.{toggle-is, points}
-use Rattle.controller.specs.Rule.{pointer, does, goes, stepAt, step}
+use Rattle.controller.specs.Rule.{pointer, does, stepAt, step}
 use Rattle.controller.specs.declared.Consumer.{Consumer}
 
 -- A link that leads to the base and toggles.

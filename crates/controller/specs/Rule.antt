@@ -1,7 +1,7 @@
 -- The controller. Document 01: "at its slot, other cycle bit than its own: nothing happens. Link: to slot 0, toggle. Else consume, move one on."
 -- Whether the TRB at its slot is its own is the standard's rule (4.9.2, `owned` in `trb`).
 use Prim.Native.Nat.{ℕ, _+_}
-use mathlib.Core.Bool.{Bool, true, false, not}
+use mathlib.Core.Bool.{true, not}
 use mathlib.Core.List.{List}
 use lib.Dec.{eqb}
 use Rattle.base.specs.First.{pick}

@@ -11,9 +11,9 @@ use lib.Seq.{length-paste}
 use Rattle.base.proofs.Compare.{lt-or-le, compared}
 use Rattle.base.proofs.Pasted.{pasted-same, pasted-before, pasted-behind}
 use Rattle.ids.specs.Free.{recordCount}
-use Rattle.table.specs.Packets.{packetCount, packetIndex, packetOf, packetWord, packetAt}
-use Rattle.table.specs.declared.packets.Packet.{Packet}
-use Rattle.table.proofs.PacketLaws.{packet-reads}
+use Rattle.packets.specs.Packets.{packetCount, packetIndex, packetOf, packetWord, packetAt}
+use Rattle.packets.specs.declared.Packet.{Packet}
+use Rattle.packets.proofs.PacketLaws.{packet-reads}
 use Rattle.dock.specs.declared.Request.{Request}
 use Rattle.dock.specs.declared.Request.the-variants.{Control, Bulk, Interrupt, Isoch}
 use Rattle.dock.specs.Limits.{packetsSize}

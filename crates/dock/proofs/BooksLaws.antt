@@ -23,9 +23,9 @@ use Rattle.ids.specs.Free.{recordCount, recordWords, idAt, freeIn}
 use Rattle.ids.specs.Order.{afterId, afterN}
 use Rattle.ids.proofs.AnyLaws.{after-last, after-more}
 use Rattle.ids.proofs.SearchLaws.{answer-other, answer-first}
-use Rattle.table.specs.Records.{inFlight, stopped, recordAt, recordList, setWord}
-use Rattle.table.specs.declared.records.Record.{Record}
-use Rattle.table.proofs.RecordLaws.{record-put, record-other, set-length}
+use Rattle.records.specs.Records.{inFlight, stopped, recordAt, recordList, setWord}
+use Rattle.records.specs.declared.Record.{Record}
+use Rattle.records.proofs.RecordLaws.{record-put, record-other, set-length}
 use Rattle.dock.specs.declared.Account.{Account}
 use Rattle.dock.specs.Limits.{recordsSize}
 use Rattle.dock.specs.Fit.{flies}

@@ -14,12 +14,12 @@ use Rattle.mask.specs.Bit.{sum}
 use Rattle.ids.specs.Free.{recordCount}
 use Rattle.ids.proofs.AnyLaws.{true-or-false}
 use Rattle.trb.specs.declared.Words.{Words}
-use Rattle.table.specs.Finished.{finishedAt}
-use Rattle.table.specs.declared.finished.Finished.{Finished}
-use Rattle.table.specs.declared.finished.Finished.the-variants as place
-use Rattle.table.specs.Packets.{packetCount, packetAt}
-use Rattle.table.specs.Records.{recordAt}
-use Rattle.table.specs.declared.records.Record.{Record}
+use Rattle.finished.specs.Finished.{finishedAt}
+use Rattle.finished.specs.declared.Finished.{Finished}
+use Rattle.finished.specs.declared.Finished.the-variants as place
+use Rattle.packets.specs.Packets.{packetCount, packetAt}
+use Rattle.records.specs.Records.{recordAt}
+use Rattle.records.specs.declared.Record.{Record}
 use Rattle.dock.specs.declared.Completion.{Completion}
 use Rattle.dock.specs.declared.Endpoint.{Endpoint}
 use Rattle.dock.specs.declared.Reclaimed.{Reclaimed}

@@ -22,13 +22,13 @@ use Rattle.ids.specs.declared.Lookup.{Lookup}
 use Rattle.ids.specs.declared.Lookup.the-variants.{At}
 use Rattle.ids.proofs.LookupLaws.{find-finds}
 use Rattle.trb.specs.declared.Words.{Words}
-use Rattle.table.specs.Finished.{finishedAt}
-use Rattle.table.specs.declared.finished.Finished.{Finished}
-use Rattle.table.specs.declared.finished.Finished.the-variants as place
-use Rattle.table.specs.Packets.{packetCount, packetAt}
-use Rattle.table.specs.Records.{isoch, inFlight, recordAt}
-use Rattle.table.specs.declared.packets.Packet.{Packet}
-use Rattle.table.specs.declared.records.Record.{Record}
+use Rattle.finished.specs.Finished.{finishedAt}
+use Rattle.finished.specs.declared.Finished.{Finished}
+use Rattle.finished.specs.declared.Finished.the-variants as place
+use Rattle.packets.specs.Packets.{packetCount, packetAt}
+use Rattle.records.specs.Records.{isoch, inFlight, recordAt}
+use Rattle.packets.specs.declared.Packet.{Packet}
+use Rattle.records.specs.declared.Record.{Record}
 use Rattle.dock.specs.declared.Completion.{Completion}
 use Rattle.dock.specs.declared.Endpoint.{Endpoint}
 use Rattle.dock.specs.declared.Reclaimed.the-variants as answer

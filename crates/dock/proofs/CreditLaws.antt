@@ -12,14 +12,14 @@ use Rattle.ids.specs.Lookup.{findIn}
 use Rattle.ids.specs.declared.Lookup.the-variants.{At}
 use Rattle.event.specs.Event.{eventOf}
 use Rattle.trb.specs.declared.Words.{Words}
-use Rattle.table.specs.Finished.{finishedAt, fillPlace}
-use Rattle.table.specs.declared.finished.Finished.{Finished}
-use Rattle.table.specs.declared.finished.Finished.the-variants as place
-use Rattle.table.specs.Packets.{packetAt}
-use Rattle.table.specs.Records.{isoch, inFlight, recordAt}
-use Rattle.table.specs.declared.packets.Packet.{Packet}
-use Rattle.table.specs.declared.records.Record.{Record}
-use Rattle.table.proofs.FinishedLaws.{others-kept}
+use Rattle.finished.specs.Finished.{finishedAt, fillPlace}
+use Rattle.finished.specs.declared.Finished.{Finished}
+use Rattle.finished.specs.declared.Finished.the-variants as place
+use Rattle.packets.specs.Packets.{packetAt}
+use Rattle.records.specs.Records.{isoch, inFlight, recordAt}
+use Rattle.packets.specs.declared.Packet.{Packet}
+use Rattle.records.specs.declared.Record.{Record}
+use Rattle.finished.proofs.FinishedLaws.{others-kept}
 use Rattle.dock.specs.declared.Completion.{Completion}
 use Rattle.dock.specs.declared.Reclaimed.the-variants as answer
 use Rattle.dock.specs.declared.Taken.{Taken}

@@ -11,8 +11,8 @@ use lib.ListN.{length}
 use Rattle.base.proofs.Compare.{lt-or-le}
 use Rattle.base.proofs.Decide.{by-eqb, both, if-so}
 use Rattle.ids.proofs.AnyLaws.{true-or-false}
-use Rattle.table.specs.Records.{recordAt}
-use Rattle.table.specs.declared.records.Record.{Record}
+use Rattle.records.specs.Records.{recordAt}
+use Rattle.records.specs.declared.Record.{Record}
 use Rattle.dock.specs.declared.Endpoint.{Endpoint}
 use Rattle.dock.specs.declared.Identity.{Identity}
 use Rattle.dock.specs.declared.Request.{Request}

@@ -25,11 +25,11 @@ use Rattle.ids.specs.declared.Lookup.{Lookup}
 use Rattle.ids.specs.declared.Lookup.the-variants as lookup
 use Rattle.ids.proofs.LookupLaws.{find-finds}
 use Rattle.trb.specs.declared.Words.{Words}
-use Rattle.table.proofs.RecordLaws.{record-put, record-other}
+use Rattle.records.proofs.RecordLaws.{record-put, record-other}
 use Rattle.ids.proofs.AnyLaws.{true-or-false, never-both, by-held}
-use Rattle.table.specs.Packets.{packetCount}
-use Rattle.table.specs.Records.{control, isoch, inFlight, recordAt, setWord}
-use Rattle.table.specs.declared.records.Record.{Record}
+use Rattle.packets.specs.Packets.{packetCount}
+use Rattle.records.specs.Records.{control, isoch, inFlight, recordAt, setWord}
+use Rattle.records.specs.declared.Record.{Record}
 use Rattle.dock.specs.declared.Changed.{Changed}
 use Rattle.dock.specs.declared.Endpoint.{Endpoint}
 use Rattle.dock.specs.declared.Flags.{Flags}

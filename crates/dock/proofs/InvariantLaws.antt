@@ -32,10 +32,10 @@ use Rattle.ring.specs.Ring.{isSlot, slotOf, linkTrb}
 use Rattle.ring.specs.declared.Slot.{Slot}
 use Rattle.ring.specs.declared.Slot.the-variants as slot
 use Rattle.ring.proofs.RuleLaws.{store-length}
-use Rattle.table.specs.Finished.{fillPlace}
-use Rattle.table.specs.Packets.{packetCount}
-use Rattle.table.specs.Records.{isoch, inFlight, stopped, cancelledWord, recordAt}
-use Rattle.table.specs.declared.records.Record.{Record}
+use Rattle.finished.specs.Finished.{fillPlace}
+use Rattle.packets.specs.Packets.{packetCount}
+use Rattle.records.specs.Records.{isoch, inFlight, stopped, cancelledWord, recordAt}
+use Rattle.records.specs.declared.Record.{Record}
 use Rattle.event.specs.Event.{eventOf}
 use Rattle.dock.specs.declared.Changed.{Changed}
 use Rattle.dock.specs.declared.Endpoint.{Endpoint}

@@ -13,12 +13,12 @@ use Rattle.mask.specs.Bit.{sum}
 use Rattle.ids.specs.Free.{recordCount}
 use Rattle.ids.specs.declared.Lookup.{Lookup}
 use Rattle.ids.specs.declared.Lookup.the-variants as lookup
-use Rattle.table.specs.Finished.{finishedAt}
-use Rattle.table.specs.declared.finished.Finished.{Finished}
-use Rattle.table.specs.declared.finished.Finished.the-variants as place
-use Rattle.table.specs.Packets.{packetAt}
-use Rattle.table.specs.Records.{control, bulk, interrupt, isoch, inFlight, stopped, recordAt}
-use Rattle.table.specs.declared.records.Record.{Record}
+use Rattle.finished.specs.Finished.{finishedAt}
+use Rattle.finished.specs.declared.Finished.{Finished}
+use Rattle.finished.specs.declared.Finished.the-variants as place
+use Rattle.packets.specs.Packets.{packetAt}
+use Rattle.records.specs.Records.{control, bulk, interrupt, isoch, inFlight, stopped, recordAt}
+use Rattle.records.specs.declared.Record.{Record}
 use Rattle.dock.specs.declared.Completion.{Completion}
 use Rattle.dock.specs.declared.Endpoint.{Endpoint}
 use Rattle.dock.specs.declared.Reclaimed.the-variants as answer

@@ -2,7 +2,7 @@
 -- packets none: whatever else the finished table holds, answer and effect are the same. A request in flight is over only where the event of its last
 -- TRB stands, or one with a refused code; and it is done only where the last one does. Assumes nothing.
 use Prim.Native.Nat.{ℕ, zero, suc, _+_, _≤_, _<_, min}
-use mathlib.Core.Bool.{Bool, true, false, _&&_, _||_, not, false≢true}
+use mathlib.Core.Bool.{Bool, true, false, _&&_, _||_, false≢true}
 use mathlib.Core.List.{List}
 use mathlib.Core.Path.{_≡_, refl, sym, ap, _∙_, subst}
 use native.Mathlib.Nat.{mod-eq-of-lt}
@@ -16,14 +16,14 @@ use Rattle.ids.specs.Lookup.{findIn}
 use Rattle.ids.specs.declared.Lookup.{Lookup}
 use Rattle.ids.specs.declared.Lookup.the-variants.{At, Nothing}
 use Rattle.trb.specs.declared.Words.{Words}
-use Rattle.table.specs.Finished.{finishedAt}
-use Rattle.table.specs.declared.finished.Finished.{Finished}
-use Rattle.table.specs.declared.finished.Finished.the-variants as place
-use Rattle.table.specs.Packets.{packetCount, packetAt, putPacket}
-use Rattle.table.specs.Records.{control, bulk, interrupt, isoch, inFlight, stopped, recordAt}
-use Rattle.table.specs.declared.packets.Packet.{Packet}
-use Rattle.table.specs.declared.records.Record.{Record}
-use Rattle.table.proofs.PacketLaws.{packet-other}
+use Rattle.finished.specs.Finished.{finishedAt}
+use Rattle.finished.specs.declared.Finished.{Finished}
+use Rattle.finished.specs.declared.Finished.the-variants as place
+use Rattle.packets.specs.Packets.{packetCount, packetAt, putPacket}
+use Rattle.records.specs.Records.{control, bulk, interrupt, isoch, inFlight, stopped, recordAt}
+use Rattle.packets.specs.declared.Packet.{Packet}
+use Rattle.records.specs.declared.Record.{Record}
+use Rattle.packets.proofs.PacketLaws.{packet-other}
 use Rattle.dock.specs.declared.Completion.{Completion}
 use Rattle.dock.specs.declared.Endpoint.{Endpoint}
 use Rattle.dock.specs.declared.Reclaimed.the-variants as answer

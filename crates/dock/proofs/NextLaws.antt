@@ -10,8 +10,8 @@ use lib.Dec.{eqb, ltb}
 use lib.ListN.{length}
 use Rattle.base.specs.First.{pick}
 use Rattle.base.proofs.Decide.{Decides, by-eqb, both, if-so, if-not}
-use Rattle.table.specs.Records.{control}
-use Rattle.table.specs.declared.records.Record.{Record}
+use Rattle.records.specs.Records.{control}
+use Rattle.records.specs.declared.Record.{Record}
 use Rattle.dock.specs.declared.Endpoint.{Endpoint}
 use Rattle.dock.specs.Fit.{fitsWith, Next, theLink, theTrb, theSetup, none, nextOf}
 use Rattle.dock.specs.Limits.{ringSize, recordsSize, packetsSize}

@@ -13,11 +13,11 @@ use Rattle.base.proofs.Compare.{same-or-not}
 use Rattle.ids.specs.Lookup.{findIn}
 use Rattle.ids.specs.declared.Lookup.{Lookup}
 use Rattle.ids.specs.declared.Lookup.the-variants.{At, Nothing}
-use Rattle.table.specs.Finished.{finishedAt}
-use Rattle.table.specs.declared.finished.Finished.{Finished}
-use Rattle.table.specs.declared.finished.Finished.the-variants as place
-use Rattle.table.specs.Records.{control, bulk, interrupt, isoch, inFlight, stopped, recordedWord, recordAt, setWord}
-use Rattle.table.specs.declared.records.Record.{Record}
+use Rattle.finished.specs.Finished.{finishedAt}
+use Rattle.finished.specs.declared.Finished.{Finished}
+use Rattle.finished.specs.declared.Finished.the-variants as place
+use Rattle.records.specs.Records.{control, bulk, interrupt, isoch, inFlight, stopped, recordedWord, recordAt, setWord}
+use Rattle.records.specs.declared.Record.{Record}
 use Rattle.dock.specs.declared.Completion.{Completion}
 use Rattle.dock.specs.declared.Endpoint.{Endpoint}
 use Rattle.dock.specs.declared.Reclaimed.{Reclaimed}

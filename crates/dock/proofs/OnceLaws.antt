@@ -20,8 +20,8 @@ use Rattle.ids.specs.declared.Lookup.{Lookup}
 use Rattle.ids.specs.declared.Lookup.the-variants as lookup
 use Rattle.ids.proofs.AnyLaws.{never-both, by-held}
 use Rattle.ids.proofs.LookupLaws.{find-computed, find-new}
-use Rattle.table.specs.Packets.{packetCount, packetAt}
-use Rattle.table.specs.Records.{inFlight, stopped, wordAt, recordAt}
+use Rattle.packets.specs.Packets.{packetCount, packetAt}
+use Rattle.records.specs.Records.{inFlight, stopped, wordAt, recordAt}
 use Rattle.dock.specs.declared.Changed.{Changed}
 use Rattle.dock.specs.declared.Endpoint.{Endpoint}
 use Rattle.dock.specs.declared.Outcome.the-variants.{Done, Refused}

@@ -10,7 +10,7 @@ use Rattle.base.specs.First.{pick}
 use Rattle.mask.specs.Bit.{bit, sum}
 use Rattle.ids.specs.Free.{recordCount, idAt}
 use Rattle.trb.specs.declared.Words.{Words}
-use Rattle.table.specs.Records.{inFlight, stopped, recordAt}
+use Rattle.records.specs.Records.{inFlight, stopped, recordAt}
 use Rattle.dock.specs.declared.Account.{Account}
 use Rattle.dock.specs.declared.Endpoint.{Endpoint}
 use Rattle.dock.specs.declared.Outcome.the-variants.{Done}

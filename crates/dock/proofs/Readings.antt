@@ -5,28 +5,26 @@ use mathlib.Core.Bool.{Bool, true, false, not, _&&_}
 use mathlib.Core.List.{List, [], _∷_, _++_}
 use mathlib.Core.Path.{_≡_, refl}
 use lib.Dec.{eqb}
-use lib.ListN.{length, getD, replicate}
+use lib.ListN.{getD, replicate}
 use Rattle.mask.specs.Bit.{bit}
-use Rattle.mask.specs.Compute.{lowestClear, clearFrom, setBit, clearBit}
-use Rattle.ids.specs.Free.{freeId, freeFrom, heldBy, any, freeIn}
-use Rattle.ids.specs.Order.{afterId}
+use Rattle.mask.specs.Compute.{lowestClear, clearFrom, setBit}
+use Rattle.ids.specs.Free.{freeId, freeFrom, heldBy, any}
 use Rattle.base.specs.Fields.{bits}
 use Rattle.base.specs.Part.{put}
 use Rattle.trb.specs.Layouts.{wordsOf, putWords}
 use Rattle.bursts.specs.Bursts.{burstsOf, packetsOf}
 use Rattle.ring.specs.Ring.{storeAt}
-use Rattle.table.specs.Records.{recordAt}
-use Rattle.table.specs.Packets.{packetAt}
+use Rattle.records.specs.Records.{recordAt}
+use Rattle.packets.specs.Packets.{packetAt}
 use Rattle.dock.specs.declared.Stored.{Stored}
 use Rattle.dock.specs.declared.Stored.the-variants as storedAs
 use Rattle.dock.specs.Configure.{configure, plainNo, plainTests}
 use Rattle.dock.specs.Store.{store, storeNo, storeTests, stepped, slotStored, ringStored, finishedStored, settled, storedAnswer}
 use Rattle.dock.specs.Stores.{trbOf, trbCount}
 use Rattle.dock.specs.Worth.{Worth, bytes, refused, worth, counts}
-use Rattle.dock.specs.declared.Account.{Account}
 use Rattle.dock.specs.declared.Endpoint.{Endpoint}
 use Rattle.dock.specs.declared.Request.{Request}
-use Rattle.dock.specs.declared.Request.the-variants.{Control, Bulk, Interrupt, Isoch}
+use Rattle.dock.specs.declared.Request.the-variants.{Control, Bulk, Isoch}
 use Rattle.dock.specs.Limits.{limitsHold, recordsSize, packetsSize}
 use Rattle.dock.specs.Fit.{fits, placesFit, strays, fitsWith, nextOf}
 use Rattle.dock.specs.State.{fresh, withAccount, moved, idle}

@@ -13,15 +13,15 @@ use lib.ListN.{length, length-set}
 use Rattle.base.specs.First.{first}
 use Rattle.base.proofs.Compare.{same-or-not}
 use Rattle.ids.specs.Free.{recordWords, recordCount}
-use Rattle.table.specs.Finished.{finishedAt}
-use Rattle.table.specs.declared.finished.Finished.{Finished}
-use Rattle.table.specs.declared.finished.Finished.the-variants as place
-use Rattle.table.specs.Records.{control, bulk, interrupt, isoch, recordedWord, wordAt, recordAt, setWord}
-use Rattle.table.specs.declared.records.Record.{Record}
-use Rattle.table.specs.Packets.{packetCount, packetAt, putPacket}
-use Rattle.table.specs.declared.packets.Packet.{Packet}
-use Rattle.table.proofs.PacketLaws.{packet-other}
-use Rattle.table.proofs.RecordLaws.{word-kept}
+use Rattle.finished.specs.Finished.{finishedAt}
+use Rattle.finished.specs.declared.Finished.{Finished}
+use Rattle.finished.specs.declared.Finished.the-variants as place
+use Rattle.records.specs.Records.{control, bulk, interrupt, isoch, recordedWord, wordAt, recordAt, setWord}
+use Rattle.records.specs.declared.Record.{Record}
+use Rattle.packets.specs.Packets.{packetCount, packetAt, putPacket}
+use Rattle.packets.specs.declared.Packet.{Packet}
+use Rattle.packets.proofs.PacketLaws.{packet-other}
+use Rattle.records.proofs.RecordLaws.{word-kept}
 use Rattle.dock.specs.declared.Endpoint.{Endpoint}
 use Rattle.dock.specs.declared.Reclaimed.{Reclaimed}
 use Rattle.dock.specs.declared.Reclaimed.the-variants as answer

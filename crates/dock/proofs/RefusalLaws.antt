@@ -12,8 +12,8 @@ use Rattle.trb.specs.declared.Words.{Words}
 use Rattle.ids.specs.Free.{recordCount}
 use Rattle.ids.specs.Lookup.{findIn}
 use Rattle.ring.specs.Ring.{enqueuePointer}
-use Rattle.table.specs.Finished.{fillPlace}
-use Rattle.table.specs.Records.{recordAt}
+use Rattle.finished.specs.Finished.{fillPlace}
+use Rattle.records.specs.Records.{recordAt}
 use Rattle.dock.specs.declared.Command.the-variants as command
 use Rattle.dock.specs.declared.Endpoint.{Endpoint}
 use Rattle.dock.specs.declared.Outcome.the-variants as outcome

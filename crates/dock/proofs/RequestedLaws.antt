@@ -15,12 +15,12 @@ use Rattle.ids.specs.Free.{recordCount}
 use Rattle.ids.specs.Lookup.{findIn}
 use Rattle.ids.specs.declared.Lookup.{Lookup}
 use Rattle.ids.specs.declared.Lookup.the-variants.{At, Nothing}
-use Rattle.table.specs.Finished.{finishedAt}
-use Rattle.table.specs.declared.finished.Finished.{Finished}
-use Rattle.table.specs.declared.finished.Finished.the-variants as place
-use Rattle.table.specs.Packets.{packetCount, packetIndex, packetAt}
-use Rattle.table.specs.Records.{control, bulk, interrupt, isoch, inFlight, stopped, recordAt}
-use Rattle.table.specs.declared.packets.Packet.{Packet}
+use Rattle.finished.specs.Finished.{finishedAt}
+use Rattle.finished.specs.declared.Finished.{Finished}
+use Rattle.finished.specs.declared.Finished.the-variants as place
+use Rattle.packets.specs.Packets.{packetCount, packetIndex, packetAt}
+use Rattle.records.specs.Records.{control, bulk, interrupt, isoch, inFlight, stopped, recordAt}
+use Rattle.packets.specs.declared.Packet.{Packet}
 use Rattle.dock.specs.declared.Endpoint.{Endpoint}
 use Rattle.dock.specs.declared.ReclaimedOne.{ReclaimedOne}
 use Rattle.dock.specs.declared.Changed.{Changed}

@@ -13,8 +13,8 @@ use Rattle.base.proofs.Decide.{if-so, if-not}
 use Rattle.mask.specs.Bit.{bit, sum}
 use Rattle.ids.specs.Free.{recordCount, recordWords, idAt}
 use Rattle.ids.proofs.AnyLaws.{true-or-false, never-both}
-use Rattle.table.specs.Records.{inFlight, stopped, stateWord, recordAt, setWord}
-use Rattle.table.proofs.RecordLaws.{word-set, set-length}
+use Rattle.records.specs.Records.{inFlight, stopped, stateWord, recordAt, setWord}
+use Rattle.records.proofs.RecordLaws.{word-set, set-length}
 use Rattle.dock.specs.declared.Account.{Account}
 use Rattle.dock.specs.Limits.{recordsSize}
 use Rattle.dock.specs.Fit.{flies}

@@ -13,7 +13,6 @@ use Rattle.ids.specs.Lookup.{findIn}
 use Rattle.dock.specs.declared.Endpoint.{Endpoint}
 use Rattle.dock.specs.declared.Request.{Request}
 use Rattle.dock.specs.Cancel.{cancelTests, cancelNo, notFlying}
-use Rattle.dock.specs.Commands.{stop, resume}
 use Rattle.dock.specs.Configure.{plainTests, plainNo}
 use Rattle.dock.specs.Fit.{fitsWith, fits}
 use Rattle.dock.specs.HandOver.{handOverTests, handOverNo, foreign}

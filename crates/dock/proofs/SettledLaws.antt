@@ -16,13 +16,13 @@ use Rattle.base.proofs.Compare.{same-or-not}
 use Rattle.base.proofs.ReadBack.{read-back, read-back-exact, flag-read}
 use Rattle.ids.specs.Free.{recordCount}
 use Rattle.trb.specs.declared.Words.{Words}
-use Rattle.table.specs.Finished.{finishedAt}
-use Rattle.table.specs.declared.finished.Finished.{Finished}
-use Rattle.table.specs.declared.finished.Finished.the-variants as place
-use Rattle.table.specs.Packets.{packetCount, packetIndex, packetOf, packetFields, packetWord, packetAt, putPacket}
-use Rattle.table.specs.declared.packets.Packet.{Packet}
-use Rattle.table.specs.declared.records.Record.{Record}
-use Rattle.table.proofs.PacketLaws.{packet-other}
+use Rattle.finished.specs.Finished.{finishedAt}
+use Rattle.finished.specs.declared.Finished.{Finished}
+use Rattle.finished.specs.declared.Finished.the-variants as place
+use Rattle.packets.specs.Packets.{packetCount, packetIndex, packetOf, packetFields, packetWord, packetAt, putPacket}
+use Rattle.packets.specs.declared.Packet.{Packet}
+use Rattle.records.specs.declared.Record.{Record}
+use Rattle.packets.proofs.PacketLaws.{packet-other}
 use Rattle.dock.specs.Worth.{Worth, bytes, refused, worth}
 use Rattle.dock.specs.Reclaim.{codeOf, remainingOf, placeOf, counted, closeBelow, Swept, unfinished, fatal, found, sweptBy, sweptAt, sweep}
 use Rattle.dock.proofs.ReclaimLaws.{put-long, close-own}

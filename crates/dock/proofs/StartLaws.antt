@@ -21,8 +21,8 @@ use Rattle.mask.proofs.ComputeLaws.{lowest-answers, set-is}
 use Rattle.ids.specs.Free.{recordCount, recordWords, isHeld, idAt}
 use Rattle.ids.specs.Order.{afterId}
 use Rattle.ids.proofs.SearchLaws.{answer-free, answer-other}
-use Rattle.table.specs.Records.{recordAt, recordList}
-use Rattle.table.proofs.RecordLaws.{record-put, record-other}
+use Rattle.records.specs.Records.{recordAt, recordList}
+use Rattle.records.proofs.RecordLaws.{record-put, record-other}
 use Rattle.dock.specs.declared.Endpoint.{Endpoint}
 use Rattle.dock.specs.declared.Request.{Request}
 use Rattle.dock.specs.Fit.{fitsWith}

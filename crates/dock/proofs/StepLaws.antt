@@ -12,8 +12,8 @@ use Rattle.base.specs.First.{pick}
 use Rattle.base.proofs.Decide.{Decides, by-eqb, both, if-so, if-not}
 use Rattle.trb.specs.Layouts.{wordsOf, wordsAt}
 use Rattle.ring.specs.Ring.{onward, around, linkTrb}
-use Rattle.table.specs.Records.{control}
-use Rattle.table.specs.declared.records.Record.{Record}
+use Rattle.records.specs.Records.{control}
+use Rattle.records.specs.declared.Record.{Record}
 use Rattle.ring.specs.declared.Position.{Position}
 use Rattle.dock.specs.declared.Endpoint.{Endpoint}
 use Rattle.dock.specs.declared.Stored.the-variants.{Slot, Last}

@@ -12,11 +12,11 @@ use Rattle.trb.specs.declared.Trb.{Trb}
 use Rattle.trb.proofs.BlockLaws.{words-length}
 use Rattle.ring.specs.Ring.{storeAt, linkTrb}
 use Rattle.ring.proofs.RuleLaws.{store-length, store-same, store-other}
-use Rattle.table.specs.Finished.{finishedAt}
-use Rattle.table.specs.Records.{recordAt}
-use Rattle.table.specs.declared.finished.Finished.the-variants.{Nothing}
-use Rattle.table.specs.declared.records.Record.{Record}
-use Rattle.table.proofs.FinishedLaws.{cleared, others-kept}
+use Rattle.finished.specs.Finished.{finishedAt}
+use Rattle.records.specs.Records.{recordAt}
+use Rattle.finished.specs.declared.Finished.the-variants.{Nothing}
+use Rattle.records.specs.declared.Record.{Record}
+use Rattle.finished.proofs.FinishedLaws.{cleared, others-kept}
 use Rattle.dock.specs.declared.Endpoint.{Endpoint}
 use Rattle.dock.specs.Fit.{Next, theLink, theTrb, theSetup, none, nextOf, isNone}
 use Rattle.dock.specs.Store.{storeNo, store, firstCycle, stepped, slotStored, ringStored, finishedStored}

@@ -21,8 +21,8 @@ use Rattle.ring.specs.Ring.{slotOf}
 use Rattle.ring.specs.declared.Slot.{Slot}
 use Rattle.ring.specs.declared.Slot.the-variants as slot
 use Rattle.ids.specs.Free.{recordCount}
-use Rattle.table.specs.Packets.{packetCount}
-use Rattle.table.specs.Records.{inFlight, recordAt}
+use Rattle.packets.specs.Packets.{packetCount}
+use Rattle.records.specs.Records.{inFlight, recordAt}
 use Rattle.dock.specs.declared.Endpoint.{Endpoint}
 use Rattle.dock.specs.declared.Request.the-variants.{Control, Bulk, Interrupt, Isoch}
 use Rattle.dock.specs.Fit.{fits, placesFit, fitsWith, strays, flies, nextOf, isNone}

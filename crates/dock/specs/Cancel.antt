@@ -1,13 +1,13 @@
 -- Cancelling a request: it is marked, and its completion answers 7. "Cancel of an id not in flight" is 6.
 use Prim.Native.Nat.{ℕ}
-use mathlib.Core.Bool.{Bool, true, false, not}
+use mathlib.Core.Bool.{Bool, true, not}
 use mathlib.Core.List.{List, [], _∷_}
 use lib.Dec.{eqb}
 use Rattle.base.specs.First.{pick, first}
 use Rattle.ids.specs.Lookup.{findIn}
 use Rattle.ids.specs.declared.Lookup.{Lookup}
 use Rattle.ids.specs.declared.Lookup.the-variants.{At, Nothing}
-use Rattle.table.specs.Records.{inFlight, cancelledWord, recordAt, setWord}
+use Rattle.records.specs.Records.{inFlight, cancelledWord, recordAt, setWord}
 use Rattle.dock.specs.declared.Endpoint.{Endpoint}
 use Rattle.dock.specs.declared.Outcome.{Outcome}
 use Rattle.dock.specs.declared.Outcome.the-variants.{Done, Refused}

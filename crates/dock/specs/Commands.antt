@@ -1,7 +1,6 @@
 -- The command words of stop and resume, and where the producer stands. Document 01: "dci << 16, slot id << 24 in w3; 16 has the place's address
 -- and, in bit 0 of w0, the cycle; w3 bit 0 is 0".
-use Prim.Native.Nat.{ℕ}
-use mathlib.Core.Bool.{Bool, false}
+use mathlib.Core.Bool.{false}
 use lib.Dec.{eqb}
 use Rattle.base.specs.First.{pick}
 use Rattle.trb.specs.Layouts.{wordsOf}

@@ -7,8 +7,8 @@ use lib.ListN.{length}
 use Rattle.base.specs.First.{pick}
 use Rattle.mask.specs.Bit.{bit}
 use Rattle.ids.specs.Free.{recordCount}
-use Rattle.table.specs.Records.{control, inFlight, recordAt}
-use Rattle.table.specs.declared.records.Record.{Record}
+use Rattle.records.specs.Records.{control, inFlight, recordAt}
+use Rattle.records.specs.declared.Record.{Record}
 use Rattle.dock.specs.declared.Endpoint.{Endpoint}
 use Rattle.dock.specs.Limits.{limitsHold, recordsSize}
 use Rattle.dock.specs.Stores.{trbCount}

@@ -6,12 +6,11 @@ use lib.Dec.{eqb}
 use lib.ListN.{length}
 use Rattle.base.specs.First.{pick, first}
 use Rattle.event.specs.Event.{eventOf}
-use Rattle.event.specs.declared.Event.{Event}
 use Rattle.trb.specs.declared.Words.{Words}
 use Rattle.ring.specs.Ring.{slotOf}
 use Rattle.ring.specs.declared.Slot.{Slot}
 use Rattle.ring.specs.declared.Slot.the-variants.{At, Outside}
-use Rattle.table.specs.Finished.{fillPlace}
+use Rattle.finished.specs.Finished.{fillPlace}
 use Rattle.dock.specs.declared.Endpoint.{Endpoint}
 use Rattle.dock.specs.declared.Taken.{Taken}
 use Rattle.dock.specs.declared.Taken.the-variants.{Place, Refused}

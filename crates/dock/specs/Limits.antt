@@ -3,7 +3,7 @@ use Prim.Native.Nat.{ℕ, _+_, _*_, _%_, _^_}
 use mathlib.Core.Bool.{Bool, _&&_}
 use lib.Dec.{leb, eqb}
 use Rattle.ids.specs.Free.{recordCount, recordWords}
-use Rattle.table.specs.Packets.{packetCount}
+use Rattle.packets.specs.Packets.{packetCount}
 
 -- "Slots L: 3 to 4,096."
 abbrev pub slotsFit : ℕ → Bool

@@ -1,6 +1,5 @@
 -- Document 01's number for each case of each answer, and the values that go with it.
 use Prim.Native.Nat.{ℕ}
-use mathlib.Core.Bool.{Bool}
 use mathlib.Core.List.{List, [], _∷_, _++_}
 use Rattle.base.specs.Fields.{flag}
 use Rattle.trb.specs.Layouts.{listed}

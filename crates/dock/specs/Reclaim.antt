@@ -1,5 +1,5 @@
 -- Reclaiming a request by its id. Document 01: rows 1, 12, 10 and 7 to 9, and "What a packet is worth".
-use Prim.Native.Nat.{ℕ, zero, suc, _+_, _-_, _*_, _%_, _^_}
+use Prim.Native.Nat.{ℕ, zero, suc, _+_, _-_, _%_, _^_}
 use mathlib.Core.Bool.{Bool, true, false, not, _&&_, _||_}
 use mathlib.Core.List.{List, [], _∷_}
 use lib.Dec.{eqb, ltb, leb}
@@ -11,23 +11,21 @@ use Rattle.ids.specs.declared.Lookup.{Lookup}
 use Rattle.ids.specs.declared.Lookup.the-variants.{At, Nothing}
 use Rattle.event.specs.Event.{eventOf}
 use Rattle.trb.specs.declared.Words.{Words}
-use Rattle.table.specs.Finished.{finishedAt}
-use Rattle.table.specs.declared.finished.Finished.{Finished}
-use Rattle.table.specs.declared.finished.Finished.the-variants as place
-use Rattle.table.specs.Records.{control, bulk, interrupt, isoch, inFlight, stopped, recordedWord, recordAt, setWord}
-use Rattle.table.specs.Packets.{packetCount, packetAt, putPacket}
-use Rattle.table.specs.declared.packets.Packet.{Packet}
-use Rattle.table.specs.declared.records.Record.{Record}
+use Rattle.finished.specs.Finished.{finishedAt}
+use Rattle.finished.specs.declared.Finished.{Finished}
+use Rattle.finished.specs.declared.Finished.the-variants as place
+use Rattle.records.specs.Records.{control, bulk, interrupt, isoch, inFlight, stopped, recordedWord, recordAt, setWord}
+use Rattle.packets.specs.Packets.{packetCount, packetAt, putPacket}
+use Rattle.packets.specs.declared.Packet.{Packet}
+use Rattle.records.specs.declared.Record.{Record}
 use Rattle.dock.specs.declared.Account.{Account}
 use Rattle.dock.specs.declared.Completion.{Completion}
 use Rattle.dock.specs.declared.Endpoint.{Endpoint}
-use Rattle.dock.specs.declared.Flags.{Flags}
 use Rattle.dock.specs.declared.Reclaimed.{Reclaimed}
 use Rattle.dock.specs.declared.Reclaimed.the-variants as answer
 use Rattle.dock.specs.declared.ReclaimedOne.{ReclaimedOne}
 use Rattle.dock.specs.Fit.{fitsWith}
 use Rattle.dock.specs.Limits.{ringSize, packetsSize}
-use Rattle.dock.specs.State.{withAccount}
 use Rattle.dock.specs.Worth.{accepted, movedBytes, Worth, bytes, refused, worth}
 
 -- ---- leaving flight

@@ -1,13 +1,13 @@
 -- A request: what it asks for, how many TRBs it takes, and the record that is kept of it.
 use Prim.Native.Nat.{ℕ, _+_, _*_, _^_, max}
-use mathlib.Core.Bool.{Bool, true, false}
-use mathlib.Core.List.{List, [], _∷_}
+use mathlib.Core.Bool.{Bool, false}
+use mathlib.Core.List.{List}
 use lib.Dec.{eqb}
 use lib.ListN.{length}
 use Rattle.base.specs.First.{pick}
 use Rattle.base.specs.Fields.{bits}
-use Rattle.table.specs.Records.{control, bulk, interrupt, isoch, inFlight}
-use Rattle.table.specs.declared.records.Record.{Record}
+use Rattle.records.specs.Records.{control, bulk, interrupt, isoch, inFlight}
+use Rattle.records.specs.declared.Record.{Record}
 use Rattle.dock.specs.declared.Request.{Request}
 use Rattle.dock.specs.declared.Request.the-variants.{Control, Bulk, Interrupt, Isoch}
 

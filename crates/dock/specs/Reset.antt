@@ -8,7 +8,6 @@ use Rattle.ids.specs.Free.{recordCount, any}
 use Rattle.dock.specs.declared.Changed.{Changed}
 use Rattle.dock.specs.declared.Endpoint.{Endpoint}
 use Rattle.dock.specs.declared.Outcome.the-variants.{Done, Refused}
-use Rattle.dock.specs.declared.Resetting.{Resetting}
 use Rattle.dock.specs.declared.Resetting.the-variants as resetting
 use Rattle.dock.specs.declared.ResetBegun.{ResetBegun}
 use Rattle.dock.specs.Fit.{fits, flies, fitsWith}

@@ -1,12 +1,11 @@
 -- Retiring all requests after a stop (`retire_all_after_stop`): every request in flight becomes stopped, and its TRBs leave outstanding.
 use Prim.Native.Nat.{ℕ, zero, suc, _-_}
-use mathlib.Core.Bool.{Bool, true, false, not}
+use mathlib.Core.Bool.{Bool, not}
 use mathlib.Core.List.{List, [], _∷_}
 use lib.Dec.{eqb}
 use Rattle.base.specs.First.{pick, first}
 use Rattle.ids.specs.Free.{recordCount}
-use Rattle.table.specs.Records.{stateWord, stopped, recordAt, setWord}
-use Rattle.dock.specs.declared.Account.{Account}
+use Rattle.records.specs.Records.{stateWord, stopped, recordAt, setWord}
 use Rattle.dock.specs.declared.Changed.{Changed}
 use Rattle.dock.specs.declared.Endpoint.{Endpoint}
 use Rattle.dock.specs.declared.Outcome.the-variants.{Done, Refused}

@@ -1,5 +1,5 @@
 -- The start of a submission: "it stores no TRB; it takes id, record and count, and writes the record's packets anew, unmarked".
-use Prim.Native.Nat.{ℕ, zero, suc, _+_, _-_, _*_, max}
+use Prim.Native.Nat.{ℕ, _+_, _-_, _*_}
 use mathlib.Core.Bool.{Bool, true, false, not, _&&_, _||_}
 use mathlib.Core.List.{List, [], _∷_}
 use lib.Dec.{eqb, ltb}
@@ -12,8 +12,8 @@ use Rattle.mask.specs.declared.Found.{Found}
 use Rattle.mask.specs.declared.Found.the-variants.{At, Full}
 use Rattle.ids.specs.Free.{recordWords, freeIn}
 use Rattle.ids.specs.Order.{afterId}
-use Rattle.table.specs.Records.{recordList}
-use Rattle.table.specs.Packets.{packetCount}
+use Rattle.records.specs.Records.{recordList}
+use Rattle.packets.specs.Packets.{packetCount}
 use Rattle.dock.specs.declared.Account.{Account}
 use Rattle.dock.specs.declared.Changed.{Changed}
 use Rattle.dock.specs.declared.Endpoint.{Endpoint}

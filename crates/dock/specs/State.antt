@@ -1,6 +1,6 @@
 -- The state that making leaves, and an endpoint with one of its parts exchanged.
 use Prim.Native.Nat.{ℕ}
-use mathlib.Core.Bool.{Bool, true, false}
+use mathlib.Core.Bool.{true, false}
 use Rattle.ring.specs.declared.Position.{Position}
 use Rattle.dock.specs.declared.Account.{Account}
 use Rattle.dock.specs.declared.Endpoint.{Endpoint}

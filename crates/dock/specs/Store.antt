@@ -1,14 +1,14 @@
 -- The next store of a submission: "each changing one slot only". "The last store answers the id and doorbell word (the dci)."
-use Prim.Native.Nat.{ℕ, _+_, _*_, _%_, _^_}
+use Prim.Native.Nat.{ℕ, _+_, _%_, _^_}
 use mathlib.Core.Bool.{Bool, true, false, not, _&&_}
 use mathlib.Core.List.{List, [], _∷_}
 use lib.Dec.{eqb}
 use lib.ListN.{length}
 use Rattle.base.specs.First.{pick, first}
 use Rattle.ring.specs.Ring.{storeAt, onward, around, linkTrb}
-use Rattle.table.specs.Finished.{clearPlace}
-use Rattle.table.specs.Records.{control, isoch, recordAt}
-use Rattle.table.specs.declared.records.Record.{Record}
+use Rattle.finished.specs.Finished.{clearPlace}
+use Rattle.records.specs.Records.{control, isoch, recordAt}
+use Rattle.records.specs.declared.Record.{Record}
 use Rattle.dock.specs.declared.Endpoint.{Endpoint}
 use Rattle.dock.specs.declared.Stored.{Stored}
 use Rattle.dock.specs.declared.Stored.the-variants.{Slot, Last, Refused}

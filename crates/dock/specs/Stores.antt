@@ -1,6 +1,6 @@
 -- The TRBs of a request, computed from its record and its packets. Document 01, "Words of a TRB" and "The order of stores".
-use Prim.Native.Nat.{ℕ, _+_, _*_, _%_, _/_, _^_, min, max}
-use mathlib.Core.Bool.{Bool, true, false, not, _&&_}
+use Prim.Native.Nat.{ℕ, _+_, _%_, _^_, min, max}
+use mathlib.Core.Bool.{true, false, not, _&&_}
 use mathlib.Core.List.{List}
 use lib.Dec.{eqb, ltb}
 use Rattle.base.specs.First.{pick}
@@ -8,9 +8,9 @@ use Rattle.base.specs.Fields.{bits}
 use Rattle.bursts.specs.Bursts.{burstsOf}
 use Rattle.trb.specs.declared.Trb.{Trb}
 use Rattle.trb.specs.declared.Trb.the-variants.{Normal, Setup, Data, Status, Isoch}
-use Rattle.table.specs.Records.{control, bulk, interrupt, isoch}
-use Rattle.table.specs.Packets.{packetCount, packetAt}
-use Rattle.table.specs.declared.records.Record.{Record}
+use Rattle.records.specs.Records.{control, bulk, interrupt, isoch}
+use Rattle.packets.specs.Packets.{packetCount, packetAt}
+use Rattle.records.specs.declared.Record.{Record}
 use Rattle.dock.specs.declared.Endpoint.{Endpoint}
 
 -- How many TRBs a record's request has, by its kind: a record whose kind is none has none, and no request has over 64 packets.

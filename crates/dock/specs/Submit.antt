@@ -1,18 +1,14 @@
 -- The whole submission: the start, and its stores in order.
 use Prim.Native.Nat.{ℕ, zero, suc, _+_}
-use mathlib.Core.Bool.{Bool, true, false}
 use mathlib.Core.List.{List}
 use Rattle.base.specs.First.{pick}
-use Rattle.dock.specs.declared.Changed.{Changed}
 use Rattle.dock.specs.declared.Endpoint.{Endpoint}
 use Rattle.dock.specs.declared.Outcome.{Outcome}
 use Rattle.dock.specs.declared.Outcome.the-variants.{Done, Refused}
 use Rattle.dock.specs.declared.Request.{Request}
 use Rattle.dock.specs.declared.Stored.{Stored}
 use Rattle.dock.specs.declared.Stored.the-variants as stored
-use Rattle.dock.specs.declared.StoredOne.{StoredOne}
 use Rattle.dock.specs.declared.StoredAll.{StoredAll}
-use Rattle.dock.specs.declared.Submitted.{Submitted}
 use Rattle.dock.specs.declared.Submitted.the-variants as submitted
 use Rattle.dock.specs.Requests.{required}
 use Rattle.dock.specs.Start.{start}

@@ -1,6 +1,6 @@
 -- What a packet is worth: the bytes that an event with a completion code counts for. Document 01, "What a packet is worth"; the standard, 6.4.5.
 use Prim.Native.Nat.{ℕ, _-_}
-use mathlib.Core.Bool.{Bool, true, false, _||_}
+use mathlib.Core.Bool.{Bool, _||_}
 use lib.Dec.{eqb}
 use Rattle.base.specs.First.{pick}
 

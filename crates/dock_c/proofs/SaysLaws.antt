@@ -1,11 +1,11 @@
 -- After every exported call the endpoint's words say the endpoint that the call's definition leaves, also where a refusal has left them as they
 -- were. (An endpoint that a program holds is narrow: `saved`, `round_trip`.) Assumes nothing.
 use Prim.Native.Nat.{ℕ}
-use mathlib.Core.Bool.{Bool, true, _&&_}
+use mathlib.Core.Bool.{true}
 use mathlib.Core.List.{List}
 use mathlib.Core.Path.{_≡_}
 use lib.ListN.{length}
-use Rattle.table.specs.Records.{isSet}
+use Rattle.records.specs.Records.{isSet}
 use Rattle.dock.specs.Configure.{configure}
 use Rattle.dock.specs.Make.{makeNo, make}
 use Rattle.dock.specs.Reclaim.{reclaim}

@@ -7,8 +7,7 @@ use mathlib.Core.List.{List}
 use lib.Dec.{eqb}
 use lib.ListN.{length}
 use Rattle.base.specs.First.{pick}
-use Rattle.trb.specs.declared.Words.{Words}
-use Rattle.table.specs.Records.{isSet}
+use Rattle.records.specs.Records.{isSet}
 use Rattle.dock.specs.Numbers.{outcomeNumber, storedNumber, submittedNumber, takenNumber, resettingNumber, commandNumber, pointedNumber}
 use Rattle.dock.specs.Make.{make}
 use Rattle.dock.specs.Configure.{configure}

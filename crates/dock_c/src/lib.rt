@@ -39,7 +39,7 @@ pub extern "C" fn thn_make(
     if state.len() != STATE_WORDS {
         return 1;
     }
-    let m = building::make::make(
+    let m = making::make(
         ring,
         finished,
         records,
@@ -216,7 +216,7 @@ pub extern "C" fn thn_retire(state: &mut [u64], records: &mut [u64]) -> u32
     if state.len() != STATE_WORDS {
         return 1;
     }
-    let c = stopping::retire_all_after_stop(load(state), records);
+    let c = retiring::retire_all_after_stop(load(state), records);
     settle(state, c)
 }
 
@@ -230,7 +230,7 @@ pub extern "C" fn thn_begin_reset(state: &mut [u64], answer: &mut [u64], records
     if answer.len() != ANSWER_WORDS {
         return 1;
     }
-    let b = stopping::begin_reset(load(state), records);
+    let b = resetting::begin_reset(load(state), records);
     let a = b.answer;
     let e = b.endpoint;
     settle_told(state, answer, answer::resetting(a), e)
@@ -244,7 +244,7 @@ pub extern "C" fn thn_end_reset(state: &mut [u64], worked: u32) -> u32
     if state.len() != STATE_WORDS {
         return 1;
     }
-    let c = stopping::end_reset(load(state), worked != 0);
+    let c = resetting::end_reset(load(state), worked != 0);
     settle(state, c)
 }
 

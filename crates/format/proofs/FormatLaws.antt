@@ -10,7 +10,7 @@ use Rattle.lines.specs.declared.reading.Reading.{Reading}
 use Rattle.lines.specs.Words.{unknown, name, formOf, baseOf, mostOf, restOf}
 use Rattle.lines.specs.Digits.{digitOf, fits, numberFrom, number}
 use Rattle.lines.specs.Reader.{start, bad, grows, grown, letter, digit, keep, closeWord, closeNumber, close, opened, feed, complete, finish, feedAll}
-use Rattle.format.specs.Format.{head, tail, fields, wordFrom, Said, badLine, said, ifRead, follow, line}
+use Rattle.format.specs.Format.{head, tail, wordFrom, Said, badLine, said, ifRead, follow, line}
 
 -- What a line that was read to its end says.
 abbrev pub outcome : Reading × List ℕ → Said

@@ -5,17 +5,17 @@ use mathlib.Core.Bool.{Bool, true, false, _&&_}
 use mathlib.Core.List.{List, [], _∷_, _++_}
 use mathlib.Core.Logic.{⊎-elim}
 use mathlib.Core.Option.{Option, none, some}
-use mathlib.Core.Path.{_≡_, refl, sym, ap, _∙_}
+use mathlib.Core.Path.{_≡_, refl, ap, _∙_}
 use native.Mathlib.Nat.{mul-le-mul-left, mod-lt, div-lt-iff-lt-mul, div-add-mod', pow-suc, pow-le-pow-right, pow-zero}
 use native.Mathlib.Omega.{arith}
-use borrow.Author.Tests.{ltb-true, ltb-false, leb-true, leb-false, lt-ltb, le-ltb, le-leb, lt-leb}
+use borrow.Author.Tests.{leb-true, leb-false, lt-ltb, le-ltb, le-leb, lt-leb}
 use lib.Dec.{ltb, leb}
 use Rattle.base.specs.First.{pick}
 use Rattle.base.proofs.Compare.{lt-or-le}
 use Rattle.io.specs.Digits.{glyph, digits}
 use Rattle.lines.specs.Digits.{digitOf, fits, numberFrom, number}
 use Rattle.lines.specs.Page.{placesIn, places, decimal, hex}
-use Rattle.lines.proofs.TextLaws.{Least, places-least}
+use Rattle.lines.proofs.TextLaws.{places-least}
 
 -- Every byte is a digit of the base,
 abbrev pub allDigits : ℕ → List ℕ → Bool

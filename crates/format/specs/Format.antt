@@ -3,7 +3,7 @@
 -- Fields are parted by tabs. The first is a word; a word that names another is followed by that one; then come the numbers that the word takes, each of
 -- its kind. A line with an unknown word, or a field missing, extra, unreadable or too large for its type is bad.
 use Prim.Native.Nat.{ℕ, _%_}
-use mathlib.Core.Bool.{Bool, true, false}
+use mathlib.Core.Bool.{Bool}
 use mathlib.Core.List.{List, [], _∷_}
 use mathlib.Core.Option.{Option, none, some}
 use lib.Dec.{eqb}

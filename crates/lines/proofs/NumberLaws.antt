@@ -1,11 +1,11 @@
 -- A number with one digit more, and its limit. Assumes nothing.
-use Prim.Native.Nat.{ℕ, _+_, _-_, _*_, _/_, _^_, _≤_, _<_}
-use mathlib.Core.Bool.{Bool, true, false, _&&_}
-use mathlib.Core.Path.{_≡_, refl, sym, ap, _∙_}
+use Prim.Native.Nat.{ℕ, _+_, _-_, _*_, _/_, _≤_, _<_}
+use mathlib.Core.Bool.{Bool, true, false}
+use mathlib.Core.Path.{_≡_, refl, sym}
 use native.Mathlib.Nat.{le-div-iff-mul-le}
 use native.Mathlib.Omega.{arith}
-use lib.Dec.{ltb, leb}
-use Rattle.base.proofs.Decide.{Decides, by-leb, by-ltb, both, if-so, if-not, reworded}
+use lib.Dec.{leb}
+use Rattle.base.proofs.Decide.{Decides, by-leb, by-ltb, both, if-so, if-not}
 use Rattle.lines.specs.Digits.{fits}
 
 module _ (value base digit most : ℕ) where

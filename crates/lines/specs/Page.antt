@@ -1,7 +1,7 @@
 -- What is written: bytes put on a page, and a number's text.
 use Prim.Native.Nat.{ℕ, zero, suc, _+_, _/_, max}
-use mathlib.Core.Bool.{Bool, true, false}
-use mathlib.Core.List.{List, [], _∷_, _++_}
+use mathlib.Core.Bool.{Bool}
+use mathlib.Core.List.{List, [], _∷_}
 use lib.Dec.{ltb}
 use lib.ListN.{length, set}
 use Rattle.base.specs.First.{pick}

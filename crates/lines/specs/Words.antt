@@ -1,6 +1,6 @@
 -- The words of a session and of a drive, and the fields that each takes. Document 01, "A session is lines of text"; a drive's words are in docs/DRIVE.md.
 use Prim.Native.Nat.{ℕ, _+_, _-_, _*_, _/_, _^_}
-use mathlib.Core.Bool.{Bool, true, false, _||_}
+use mathlib.Core.Bool.{Bool, _||_}
 use mathlib.Core.List.{List, [], _∷_}
 use lib.Dec.{eqb}
 use Rattle.base.specs.First.{pick}

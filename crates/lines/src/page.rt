@@ -1,8 +1,6 @@
 // A page: bytes that are to be written. `at` of them stand on it; what no longer fits is left out.
 ghost use mathlib.Core.Path.{_≡_};
-ghost use mathlib.Core.List.{List};
-ghost use Prim.Native.Nat.{ℕ, _≤_, _<_};
-ghost use lib.ListN.{length, take, drop};
+ghost use Prim.Native.Nat.{_<_};
 ghost use Rattle.lines.specs.Page.{put, putAll, decimalField, hexField, flagField, newline};
 
 // One byte.

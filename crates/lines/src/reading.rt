@@ -1,6 +1,6 @@
 // A line that is being read, byte by byte: `feed` takes one byte, `finish` the line's end, and `scan` the bytes that are there.
 ghost use mathlib.Core.Path.{_≡_};
-ghost use lib.ListN.{length, drop};
+ghost use lib.ListN.{drop};
 ghost use Rattle.lines.specs.Reader.{start, bad, letter, digit, keep, closeWord, closeNumber, close, opened, feed, complete, finish, scan};
 use crate::number;
 use crate::words;

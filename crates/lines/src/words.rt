@@ -4,7 +4,6 @@
 // one number. The fields that a word takes are a form: a number whose hex digits, from the lowest, are the kinds of the fields in order.
 ghost use mathlib.Core.Path.{_≡_};
 ghost use mathlib.Core.Bool.{_||_};
-ghost use Prim.Native.Nat.{_<_, _≤_};
 ghost use lib.Dec.{eqb};
 ghost use Rattle.lines.specs.Words.{sessionForm, isBare, takesCount, takesName, driveForm, requestForm, tableForm};
 ghost use Rattle.lines.specs.Words.{formOf, isHex, baseOf, mostOf, restOf};

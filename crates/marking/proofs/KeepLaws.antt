@@ -11,9 +11,9 @@ use Rattle.base.specs.First.{pick}
 use Rattle.base.proofs.Compare.{same-or-not}
 use Rattle.base.proofs.ReadBack.{read-back, flag-read}
 use Rattle.ids.specs.Free.{recordCount}
-use Rattle.table.specs.Packets.{packetCount, packetIndex, packetOf, packetFields, packetWord, packetAt, putPacket}
-use Rattle.table.specs.declared.packets.Packet.{Packet}
-use Rattle.table.proofs.PacketLaws.{packet-other}
+use Rattle.packets.specs.Packets.{packetCount, packetIndex, packetOf, packetFields, packetWord, packetAt, putPacket}
+use Rattle.packets.specs.declared.Packet.{Packet}
+use Rattle.packets.proofs.PacketLaws.{packet-other}
 use Rattle.dock.proofs.ReclaimLaws.{put-long}
 use Rattle.dock.proofs.RetireLaws.{picked}
 use Rattle.marking.specs.Words.{keepOne, keepBelow}

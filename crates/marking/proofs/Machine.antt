@@ -1,7 +1,7 @@
 -- The machine values of a packet, of a block and of where a walk stands, for the walks by hand.
 use mir.Syntax.{w32, w64}
 use mir.Val.{Val, vbool, vint, vstruct, vnil, vcons}
-use Rattle.table.specs.declared.packets.Packet.{Packet}
+use Rattle.packets.specs.declared.Packet.{Packet}
 use Rattle.marking.specs.declared.Block.{Block}
 use Rattle.marking.specs.declared.Standing.{Standing}
 

@@ -2,8 +2,8 @@
 use Prim.Native.Nat.{ℕ}
 use mathlib.Core.Path.{_≡_}
 use Rattle.trb.specs.declared.Words.{Words}
-use Rattle.table.specs.declared.finished.Finished.the-variants as place
-use Rattle.table.specs.declared.packets.Packet.{Packet}
+use Rattle.finished.specs.declared.Finished.the-variants as place
+use Rattle.packets.specs.declared.Packet.{Packet}
 use Rattle.dock.specs.Reclaim.{codeOf, remainingOf}
 use Rattle.dock.specs.Worth.{bytes, refused, worth}
 use Rattle.marking.specs.declared.Standing.{Standing}

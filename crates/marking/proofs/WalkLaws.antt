@@ -11,10 +11,10 @@ use lib.Dec.{eqb, ltb}
 use lib.ListN.{length, getD, set}
 use lib.Seq.{getD-set-other}
 use Rattle.base.specs.First.{pick}
-use Rattle.table.specs.Finished.{finishedAt}
-use Rattle.table.specs.declared.finished.Finished.{Finished}
-use Rattle.table.specs.declared.finished.Finished.the-variants as place
-use Rattle.table.specs.declared.packets.Packet.{Packet}
+use Rattle.finished.specs.Finished.{finishedAt}
+use Rattle.finished.specs.declared.Finished.{Finished}
+use Rattle.finished.specs.declared.Finished.the-variants as place
+use Rattle.packets.specs.declared.Packet.{Packet}
 use Rattle.dock.specs.Reclaim.{codeOf, remainingOf}
 use Rattle.dock.specs.Worth.{Worth, bytes, refused, worth}
 use Rattle.dock.proofs.RetireLaws.{picked}

@@ -1,14 +1,14 @@
 -- The walk over packet records, turn by turn: what a turn leaves of a packet and where the walk stands then, and the turns in order.
 use Prim.Native.Nat.{ℕ, zero, suc, _+_, _*_, _≤_, _<_}
-use mathlib.Core.Bool.{Bool, true, false, _&&_}
+use mathlib.Core.Bool.{Bool, false, _&&_}
 use mathlib.Core.List.{List}
 use lib.Dec.{eqb, ltb, leb}
 use lib.ListN.{length, getD, set}
 use Rattle.base.specs.First.{pick}
-use Rattle.table.specs.Finished.{finishedAt}
-use Rattle.table.specs.declared.finished.Finished.{Finished}
-use Rattle.table.specs.declared.finished.Finished.the-variants as place
-use Rattle.table.specs.declared.packets.Packet.{Packet}
+use Rattle.finished.specs.Finished.{finishedAt}
+use Rattle.finished.specs.declared.Finished.{Finished}
+use Rattle.finished.specs.declared.Finished.the-variants as place
+use Rattle.packets.specs.declared.Packet.{Packet}
 use Rattle.dock.specs.Reclaim.{codeOf, remainingOf, counted}
 use Rattle.dock.specs.Worth.{Worth, bytes, refused, worth}
 use Rattle.marking.specs.declared.Block.{Block}

@@ -3,8 +3,8 @@ use Prim.Native.Nat.{ℕ, zero, suc}
 use mathlib.Core.List.{List}
 use lib.Dec.{eqb}
 use Rattle.base.specs.First.{pick}
-use Rattle.table.specs.Packets.{packetAt, putPacket}
-use Rattle.table.specs.declared.packets.Packet.{Packet}
+use Rattle.packets.specs.Packets.{packetAt, putPacket}
+use Rattle.packets.specs.declared.Packet.{Packet}
 use Rattle.dock.specs.Reclaim.{Swept, unfinished, fatal, found}
 use Rattle.marking.specs.declared.Standing.{Standing}
 use Rattle.marking.specs.Marking.{isRefused, isFound}

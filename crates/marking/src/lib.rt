@@ -7,11 +7,11 @@
 ghost use mathlib.Core.Path.{_≡_};
 ghost use Prim.Native.Nat.{_+_, _<_};
 ghost use lib.ListN.{length};
-ghost use Rattle.table.specs.Finished.{finishedAt};
+ghost use Rattle.finished.specs.Finished.{finishedAt};
 ghost use Rattle.marking.specs.Marking.{behind, fitting, beginOf, onward, closedOf, creditOf, seenOf, turnOf, Fine, walked};
-use table::finished::Finished;
-use table::packets::PACKETS;
-use table::packets::Packet;
+use finished::Finished;
+use packets::PACKETS;
+use packets::Packet;
 use worth::Value;
 use worth::value_of;
 
@@ -209,7 +209,7 @@ pub fn turn(p: Packet, finished: &[u32], s: Standing) -> Turned
         };
     }
     let place = s.place;
-    look(table::finished::get_finished(finished, place), p, s)
+    look(finished::get_finished(finished, place), p, s)
 }
 
 // The loop: each packet is taken, turned and put back, until the walk stands at its end.

@@ -21,9 +21,9 @@ use Rattle.trb.specs.declared.Trb.the-variants.{Setup, Status, Isoch}
 use Rattle.trb.proofs.LayoutLaws.{type-is}
 use Rattle.ids.specs.Free.{recordCount}
 use Rattle.ring.specs.Ring.{linkTrb}
-use Rattle.table.specs.Packets.{packetAt}
-use Rattle.table.specs.declared.packets.Packet.{Packet}
-use Rattle.table.specs.declared.records.Record.{Record}
+use Rattle.packets.specs.Packets.{packetAt}
+use Rattle.packets.specs.declared.Packet.{Packet}
+use Rattle.records.specs.declared.Record.{Record}
 use Rattle.dock.specs.declared.Endpoint.{Endpoint}
 use Rattle.dock.specs.declared.Periodic.{Periodic}
 use Rattle.dock.specs.declared.Request.{Request}

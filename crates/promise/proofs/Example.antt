@@ -18,9 +18,9 @@ use Rattle.trb.specs.Cycle as cycle
 use Rattle.trb.specs.Layouts.{wordsOf, wordsAt, putWords}
 use Rattle.trb.specs.declared.Words.{Words}
 use Rattle.ring.specs.Ring.{storeAt, isSlot, slotOf}
-use Rattle.table.specs.Finished.{finishedAt, fillPlace}
-use Rattle.table.specs.Packets.{packetAt, putPacket}
-use Rattle.table.specs.Records.{recordAt, setWord}
+use Rattle.finished.specs.Finished.{finishedAt, fillPlace}
+use Rattle.packets.specs.Packets.{packetAt, putPacket}
+use Rattle.records.specs.Records.{recordAt, setWord}
 use Rattle.dock.specs.declared.Request.the-variants.{Control, Bulk, Isoch}
 use Rattle.dock.specs.Cancel.{cancel, cancelNo, cancelTests}
 use Rattle.dock.specs.Configure.{configure, plainNo, plainTests}

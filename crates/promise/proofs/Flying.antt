@@ -17,8 +17,8 @@ use Rattle.ids.specs.Lookup.{findIn}
 use Rattle.ids.specs.declared.Lookup.{Lookup}
 use Rattle.ids.specs.declared.Lookup.the-variants as lookup
 use Rattle.mask.specs.Compute.{clearBit}
-use Rattle.table.specs.Records.{cancelledWord, recordedWord, recordAt, setWord}
-use Rattle.table.proofs.RecordLaws.{word-kept}
+use Rattle.records.specs.Records.{cancelledWord, recordedWord, recordAt, setWord}
+use Rattle.records.proofs.RecordLaws.{word-kept}
 use Rattle.dock.specs.declared.Account.{Account}
 use Rattle.dock.specs.declared.Endpoint.{Endpoint}
 use Rattle.dock.specs.Cancel.{marked, cancelNo, cancelTests}

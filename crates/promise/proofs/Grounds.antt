@@ -20,10 +20,10 @@ use Rattle.ids.proofs.AnyLaws.{true-or-false}
 use Rattle.mask.specs.Bit.{bit}
 use Rattle.mask.specs.Compute.{clearBit}
 use Rattle.trb.specs.declared.Words.{Words}
-use Rattle.table.specs.Finished.{finishedAt}
-use Rattle.table.specs.Records.{recordAt}
-use Rattle.table.specs.declared.finished.Finished.the-variants.{Event}
-use Rattle.table.specs.declared.records.Record.{Record}
+use Rattle.finished.specs.Finished.{finishedAt}
+use Rattle.records.specs.Records.{recordAt}
+use Rattle.finished.specs.declared.Finished.the-variants.{Event}
+use Rattle.records.specs.declared.Record.{Record}
 use Rattle.dock.specs.declared.Account.{Account}
 use Rattle.dock.specs.declared.Changed.{Changed}
 use Rattle.dock.specs.declared.Endpoint.{Endpoint}

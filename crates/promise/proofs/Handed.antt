@@ -16,9 +16,9 @@ use Rattle.trb.specs.declared.Words.{Words}
 use Rattle.ids.proofs.AnyLaws.{true-or-false}
 use Rattle.ring.specs.Ring.{slotAddress, slotOf}
 use Rattle.ring.proofs.SlotLaws.{slot-found}
-use Rattle.table.specs.Finished.{finishedAt, fillPlace}
-use Rattle.table.specs.declared.finished.Finished.the-variants.{Event}
-use Rattle.table.proofs.FinishedLaws.{taken, kept, others-kept}
+use Rattle.finished.specs.Finished.{finishedAt, fillPlace}
+use Rattle.finished.specs.declared.Finished.the-variants.{Event}
+use Rattle.finished.proofs.FinishedLaws.{taken, kept, others-kept}
 use Rattle.dock.specs.declared.Endpoint.{Endpoint}
 use Rattle.dock.specs.HandOver.{slotNumber, slotFor, foreign, handOverTests, handOverNo}
 use Rattle.dock.specs.Reclaim.{codeOf}

@@ -16,10 +16,10 @@ use Rattle.trb.specs.declared.Trb.{Trb}
 use Rattle.trb.specs.declared.Words.{Words}
 use Rattle.ring.specs.Ring.{linkTrb}
 use Rattle.ring.specs.declared.Position.{Position}
-use Rattle.table.specs.Finished.{finishedAt}
-use Rattle.table.specs.Records.{control, bulk, interrupt, recordAt}
-use Rattle.table.specs.declared.finished.Finished.the-variants.{Event}
-use Rattle.table.specs.declared.records.Record.{Record}
+use Rattle.finished.specs.Finished.{finishedAt}
+use Rattle.records.specs.Records.{control, bulk, interrupt, recordAt}
+use Rattle.finished.specs.declared.Finished.the-variants.{Event}
+use Rattle.records.specs.declared.Record.{Record}
 use Rattle.dock.specs.declared.Endpoint.{Endpoint}
 use Rattle.dock.specs.Fit.{flies, theTrb}
 use Rattle.dock.specs.Reclaim.{codeOf}

@@ -11,7 +11,7 @@ use mathlib.Core.List.{List, _++_}
 use mathlib.Core.Path.{_≡_, refl, sym, ap, _∙_, subst}
 use native.Mathlib.Omega.{arith}
 use lib.ListN.{length, take}
-use Rattle.table.specs.Records.{control}
+use Rattle.records.specs.Records.{control}
 use Rattle.dock.specs.Stores.{trbCount}
 use Rattle.order.specs.Flat.{flat}
 use Rattle.order.specs.Model.{Deferring}

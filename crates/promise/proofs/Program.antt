@@ -6,7 +6,7 @@ use mathlib.Core.List.{List}
 use mathlib.Core.Path.{_≡_, refl}
 use lib.Dec.{eqb}
 use Rattle.base.specs.First.{pick}
-use Rattle.trb.specs.Cycle.{Pointer, owned, typeOf}
+use Rattle.trb.specs.Cycle.{owned, typeOf}
 use Rattle.trb.specs.Layouts.{wordsAt}
 use Rattle.trb.specs.declared.Words.{Words}
 use Rattle.controller.specs.Rule as program

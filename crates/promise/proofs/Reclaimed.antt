@@ -19,8 +19,8 @@ use Rattle.ids.proofs.AnyLaws.{by-held}
 use Rattle.mask.specs.Bit.{bit}
 use Rattle.mask.specs.Compute.{clearBit}
 use Rattle.trb.specs.declared.Words.{Words}
-use Rattle.table.specs.Records.{inFlight, stopped, recordAt}
-use Rattle.table.specs.declared.records.Record.{Record}
+use Rattle.records.specs.Records.{inFlight, stopped, recordAt}
+use Rattle.records.specs.declared.Record.{Record}
 use Rattle.dock.specs.declared.Endpoint.{Endpoint}
 use Rattle.dock.specs.declared.ReclaimedOne.{ReclaimedOne}
 use Rattle.dock.specs.Fit.{flies}

@@ -12,12 +12,12 @@ use lib.Dec.{eqb}
 use Rattle.base.specs.First.{pick}
 use Rattle.base.proofs.Decide.{by-eqb, either}
 use Rattle.trb.specs.declared.Words.{Words}
-use Rattle.table.specs.Finished.{finishedAt}
-use Rattle.table.specs.declared.finished.Finished.{Finished}
-use Rattle.table.specs.declared.finished.Finished.the-variants as place
-use Rattle.table.specs.Packets.{packetAt, putPacket}
-use Rattle.table.specs.Records.{control, bulk, interrupt, isoch}
-use Rattle.table.specs.declared.records.Record.{Record}
+use Rattle.finished.specs.Finished.{finishedAt}
+use Rattle.finished.specs.declared.Finished.{Finished}
+use Rattle.finished.specs.declared.Finished.the-variants as place
+use Rattle.packets.specs.Packets.{packetAt, putPacket}
+use Rattle.records.specs.Records.{control, bulk, interrupt, isoch}
+use Rattle.records.specs.declared.Record.{Record}
 use Rattle.dock.specs.declared.Endpoint.{Endpoint}
 use Rattle.dock.specs.declared.ReclaimedOne.{ReclaimedOne}
 use Rattle.dock.specs.Reclaim.{nothing, codeOf, remainingOf, placeOf, bulkBy, reclaimBulk, onward, stageBy, statusBy, recordedBy, statusPlace, dataPlace, dataSeen, reclaimControl, counted, closeBelow, Swept, unfinished, found, sweptBy, sweptAt, sweep, sweptAnswer, reclaimIso, reclaimFlying}

@@ -17,8 +17,8 @@ use Rattle.ids.proofs.AnyLaws.{true-or-false}
 use Rattle.mask.specs.Bit.{bit}
 use Rattle.trb.specs.declared.Trb.{Trb}
 use Rattle.trb.specs.declared.Words.{Words}
-use Rattle.table.specs.Records.{control, inFlight, recordAt}
-use Rattle.table.specs.declared.records.Record.{Record}
+use Rattle.records.specs.Records.{control, inFlight, recordAt}
+use Rattle.records.specs.declared.Record.{Record}
 use Rattle.dock.specs.declared.Endpoint.{Endpoint}
 use Rattle.dock.specs.declared.Request.{Request}
 use Rattle.dock.specs.declared.Request.the-variants as asks

@@ -17,11 +17,11 @@ use Rattle.trb.specs.declared.Words.{Words}
 use Rattle.ring.specs.Ring.{storeAt, onward, around, linkTrb}
 use Rattle.ring.specs.declared.Position.{Position}
 use Rattle.ring.proofs.RuleLaws.{store-same, store-other}
-use Rattle.table.specs.Finished.{finishedAt, clearPlace}
-use Rattle.table.specs.Records.{control, recordAt}
-use Rattle.table.specs.declared.finished.Finished.the-variants.{Event}
-use Rattle.table.specs.declared.records.Record.{Record}
-use Rattle.table.proofs.FinishedLaws.{cleared, others-kept}
+use Rattle.finished.specs.Finished.{finishedAt, clearPlace}
+use Rattle.records.specs.Records.{control, recordAt}
+use Rattle.finished.specs.declared.Finished.the-variants.{Event}
+use Rattle.records.specs.declared.Record.{Record}
+use Rattle.finished.proofs.FinishedLaws.{cleared, others-kept}
 use Rattle.dock.specs.declared.Endpoint.{Endpoint}
 use Rattle.dock.specs.Fit.{Next, theLink, theTrb, theSetup, nextOf, isNone}
 use Rattle.dock.specs.State.{idle, moved}

@@ -8,8 +8,8 @@ use mathlib.Core.Path.{_≡_, refl, ap, ap₂, _∙_}
 use lib.ListN.{length}
 use Rattle.base.proofs.Compare.{same-or-not}
 use Rattle.trb.specs.declared.Trb.{Trb}
-use Rattle.table.specs.Records.{control, recordAt}
-use Rattle.table.specs.declared.records.Record.{Record}
+use Rattle.records.specs.Records.{control, recordAt}
+use Rattle.records.specs.declared.Record.{Record}
 use Rattle.dock.specs.declared.Endpoint.{Endpoint}
 use Rattle.dock.specs.Fit.{theLink, theTrb, theSetup, nextOf, isNone}
 use Rattle.dock.specs.Fit as fit

@@ -14,8 +14,8 @@ use Rattle.event.specs.Event.{eventOf}
 use Rattle.trb.specs.declared.Trb.{Trb}
 use Rattle.trb.specs.declared.Words.{Words}
 use Rattle.ring.specs.Ring.{slotAddress}
-use Rattle.table.specs.Records.{recordAt}
-use Rattle.table.specs.declared.records.Record.{Record}
+use Rattle.records.specs.Records.{recordAt}
+use Rattle.records.specs.declared.Record.{Record}
 use Rattle.dock.specs.declared.Outcome.the-variants.{Done}
 use Rattle.dock.specs.declared.Request.{Request}
 use Rattle.dock.specs.HandOver.{handOverNo}

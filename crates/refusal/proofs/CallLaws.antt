@@ -20,9 +20,9 @@ use Rattle.ring.specs.declared.Slot.the-variants as slot
 use Rattle.event.specs.Event.{eventOf}
 use Rattle.event.specs.declared.Event.{Event}
 use Rattle.trb.specs.declared.Words.{Words}
-use Rattle.table.specs.Packets.{packetCount}
-use Rattle.table.specs.Records.{isoch, inFlight, recordAt}
-use Rattle.table.specs.declared.records.Record.{Record}
+use Rattle.packets.specs.Packets.{packetCount}
+use Rattle.records.specs.Records.{isoch, inFlight, recordAt}
+use Rattle.records.specs.declared.Record.{Record}
 use Rattle.dock.specs.Fit.{fits, fitsWith}
 use Rattle.dock.specs.Limits.{ringSize, packetsSize}
 use Rattle.dock.specs.HandOver.{isOutside, slotNumber, slotFor, foreign, handOverTests, handOverNo}

@@ -2,10 +2,10 @@
 use Prim.Native.Nat.{ℕ, _+_}
 use mathlib.Core.Bool.{Bool, _&&_, _||_}
 use lib.Dec.{eqb, leb, ltb}
-use Rattle.table.specs.Packets.{packetCount}
-use Rattle.table.specs.Records.{isoch, inFlight}
-use Rattle.table.specs.declared.finished.Finished.the-variants as place
-use Rattle.table.specs.declared.records.Record.{Record}
+use Rattle.packets.specs.Packets.{packetCount}
+use Rattle.records.specs.Records.{isoch, inFlight}
+use Rattle.finished.specs.declared.Finished.the-variants as place
+use Rattle.records.specs.declared.Record.{Record}
 
 -- A record in flight "with a place above L-2 or over 64 packets".
 unfoldable pub misplaced : ℕ → Record → Bool

@@ -2,7 +2,7 @@
 use Prim.Native.Nat.{ℕ, _*_, _≤_}
 use mathlib.Core.Path.{_≡_}
 use Rattle.ids.specs.Free.{recordCount, recordWords}
-use Rattle.table.specs.Packets.{packetCount}
+use Rattle.packets.specs.Packets.{packetCount}
 
 -- The sizes of the tables that a reclaim is lent, for a ring of so many slots.
 pub record Sizes (slots finished records packets : ℕ) : Type 0 where

@@ -17,9 +17,9 @@ use checks::PACKETS_SIZE;
 use dock::Endpoint;
 use ids::Lookup;
 use ring::Slot;
-use table::packets::PACKETS;
-use table::records::IN_FLIGHT;
-use table::records::Record;
+use packets::PACKETS;
+use records::IN_FLIGHT;
+use records::Record;
 use trb::Words;
 
 // ---- an event that is handed over
@@ -31,7 +31,7 @@ fn is_ready(e: Endpoint, finished: usize) -> bool
     if !checks::fits(e) {
         return false;
     }
-    checks::is_sized(finished, e.shape.slots)
+    limits::is_sized(finished, e.shape.slots)
 }
 
 // The slot whose TRB an event is for.
@@ -93,7 +93,7 @@ fn is_grounded(records: &[u64], occupancy: u64, id: u64) -> bool
     match found {
         Lookup::Nothing => true,
         Lookup::At(r) => {
-            let v = table::records::record_at(records, r);
+            let v = records::record_at(records, r);
             v.state != IN_FLIGHT
         }
     }
@@ -118,7 +118,7 @@ fn is_fitted(e: Endpoint, finished: usize, records: &[u64], packets: usize) -> b
     if !checks::fits_with(e, records) {
         return false;
     }
-    if !checks::is_sized(finished, e.shape.slots) {
+    if !limits::is_sized(finished, e.shape.slots) {
         return false;
     }
     packets == PACKETS_SIZE
@@ -150,7 +150,7 @@ fn is_bad(e: Endpoint, records: &[u64], id: u64) -> bool
     let found = ids::find_id(records, e.account.occupancy, id);
     match found {
         Lookup::Nothing => false,
-        Lookup::At(r) => is_misplaced(e.shape.slots, table::records::record_at(records, r)),
+        Lookup::At(r) => is_misplaced(e.shape.slots, records::record_at(records, r)),
     }
 }
 

@@ -3,8 +3,8 @@ use Prim.Native.Nat.{ℕ, max}
 use mathlib.Core.Bool.{false}
 use lib.Dec.{eqb}
 use Rattle.base.specs.First.{pick}
-use Rattle.table.specs.Records.{inFlight}
-use Rattle.table.specs.declared.records.Record.{Record}
+use Rattle.records.specs.Records.{inFlight}
+use Rattle.records.specs.declared.Record.{Record}
 use Rattle.dock.specs.declared.Request.{Request}
 use Rattle.dock.specs.declared.Request.the-variants.{Control, Bulk, Interrupt, Isoch}
 use Rattle.dock.specs.Requests.{kindOf, incomingOf, lengthOf, setupOf, bufferOf}

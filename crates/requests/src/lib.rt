@@ -6,7 +6,7 @@ ghost use Rattle.base.specs.First.{pick};
 ghost use Rattle.dock.specs.Requests.{kindOf, incomingOf, addressOf, lengthOf, setupOf, bufferOf};
 ghost use Rattle.requests.specs.Counts.{givenBy, requiredBy, recordBy};
 use dock::Request;
-use table::records::Record;
+use records::Record;
 
 pub fn kind_of(request: Request) -> u64
     ensures { λ r. ⌜ r ≡ kindOf request ⌝ }
@@ -269,7 +269,7 @@ pub fn record_for(request: Request, count: usize, id: u64, place: usize) -> Reco
         id,
         kind: kind_of(request),
         incoming: incoming_of(request),
-        state: table::records::IN_FLIGHT,
+        state: records::IN_FLIGHT,
         cancelled: false,
         address: buffer_of(request),
         length: length_of(request),

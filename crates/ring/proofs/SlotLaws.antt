@@ -1,11 +1,10 @@
 -- The slot of an address: `slotOf` answers `At i` exactly where the address is that of slot i, and `Outside` where it is that of none.
 -- Assumes nothing.
 use Prim.Native.Nat.{ℕ, _+_, _-_, _*_, _/_, _%_, _≤_, _<_}
-use mathlib.Core.Path.{_≡_, refl, sym, ap, _∙_}
+use mathlib.Core.Path.{_≡_, sym, ap, _∙_}
 use native.Mathlib.Omega.{arith}
 use Rattle.base.proofs.Decide.{Decides, by-leb, by-ltb, by-eqb, both, if-so, if-not}
 use Rattle.ring.specs.Ring.{slotAddress, isSlot, slotOf}
-use Rattle.ring.specs.declared.Slot.{Slot}
 use Rattle.ring.specs.declared.Slot.the-variants.{At, Outside}
 
 module _ (base slots address : ℕ) where

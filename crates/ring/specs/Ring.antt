@@ -1,6 +1,6 @@
 -- A ring as a list of words, four a slot, and what each store leaves in it. Document 01, "The order of stores"; ring.rs.
 use Prim.Native.Nat.{ℕ, _+_, _-_, _*_, _/_, _%_}
-use mathlib.Core.Bool.{Bool, true, false, not, _&&_}
+use mathlib.Core.Bool.{Bool, true, not, _&&_}
 use mathlib.Core.List.{List}
 use lib.Dec.{leb, ltb, eqb}
 use Rattle.base.specs.First.{pick}

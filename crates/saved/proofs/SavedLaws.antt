@@ -1,5 +1,5 @@
 -- An endpoint that is saved is loaded as it was, and words that came from a save are saved as they were. Assumes nothing.
-use Prim.Native.Nat.{ℕ, _%_, _^_, _<_}
+use Prim.Native.Nat.{ℕ}
 use mathlib.Core.Bool.{Bool, true, false, and-eq-true-iff}
 use mathlib.Core.List.{List}
 use mathlib.Core.Path.{_≡_, refl, sym, ap, _∙_}
@@ -9,7 +9,7 @@ use lib.Dec.{eqb}
 use lib.ListN.{length}
 use Rattle.base.specs.Fields.{flag}
 use Rattle.base.specs.First.{pick}
-use Rattle.table.specs.Records.{isSet}
+use Rattle.records.specs.Records.{isSet}
 use Rattle.dock.specs.declared.Endpoint.{Endpoint}
 use Rattle.saved.specs.State.{Narrow, stateWords, load, save, moves, kept}
 use Rattle.saved.specs.Request.{requestWords, isRequest}

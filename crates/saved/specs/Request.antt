@@ -6,7 +6,7 @@ use mathlib.Core.List.{List}
 use lib.Dec.{eqb, ltb}
 use lib.ListN.{length, getD}
 use Rattle.base.specs.First.{pick}
-use Rattle.table.specs.Records.{control, bulk, interrupt, isSet}
+use Rattle.records.specs.Records.{control, bulk, interrupt, isSet}
 use Rattle.dock.specs.declared.Request.{Request}
 use Rattle.dock.specs.declared.Request.the-variants.{Control, Bulk, Interrupt, Isoch}
 

@@ -8,7 +8,7 @@ use lib.ListN.{getD}
 use Rattle.base.specs.Fields.{flag}
 use Rattle.base.specs.First.{pick}
 use Rattle.ring.specs.declared.Position.{Position}
-use Rattle.table.specs.Records.{isSet}
+use Rattle.records.specs.Records.{isSet}
 use Rattle.dock.specs.declared.Account.{Account}
 use Rattle.dock.specs.declared.Endpoint.{Endpoint}
 use Rattle.dock.specs.declared.Flags.{Flags}

@@ -1,20 +1,19 @@
 -- What `send` leaves is what an admitted submission's stores leave, one after the other. Assumes nothing.
-use Prim.Native.Nat.{ℕ, zero, suc, _+_, _-_, _<_, _≤_}
-use mathlib.Core.Bool.{Bool, true, false, not, _&&_, false≢true}
+use Prim.Native.Nat.{ℕ, zero, suc, _+_, _-_, _<_}
+use mathlib.Core.Bool.{Bool, false, not}
 use mathlib.Core.List.{List, [], _∷_}
 use mathlib.Core.Logic.{⊎-elim}
 use mathlib.Core.Path.{_≡_, refl, sym, ap, subst, _∙_}
 use native.Mathlib.Omega.{arith}
-use borrow.Author.Tests.{eq-eqb, ne-eqb, lt-ltb, le-ltb}
-use lib.Dec.{eqb, ltb}
+use borrow.Author.Tests.{ne-eqb, lt-ltb}
+use lib.Dec.{eqb}
 use lib.ListN.{length, getD}
-use Rattle.base.specs.First.{pick}
 use Rattle.base.proofs.Compare.{same-or-not}
 use Rattle.ring.specs.declared.Position.{Position}
-use Rattle.table.specs.Packets.{packetCount, packetAt}
-use Rattle.table.specs.Records.{control, isoch, recordAt}
-use Rattle.table.specs.declared.packets.Packet.{Packet}
-use Rattle.table.specs.declared.records.Record.{Record}
+use Rattle.packets.specs.Packets.{packetAt}
+use Rattle.records.specs.Records.{control, isoch, recordAt}
+use Rattle.packets.specs.declared.Packet.{Packet}
+use Rattle.records.specs.declared.Record.{Record}
 use Rattle.dock.specs.declared.Endpoint.{Endpoint}
 use Rattle.dock.specs.declared.Request.{Request}
 use Rattle.dock.specs.declared.Request.the-variants.{Control, Bulk, Interrupt, Isoch}
@@ -33,9 +32,11 @@ use Rattle.dock.proofs.AskedLaws.{packet-written}
 use Rattle.dock.proofs.FinishLaws.{start-finishes}
 use Rattle.dock.proofs.StartLaws.{start-admitted, record-below, record-written}
 use Rattle.dock.proofs.StartedLaws.{count-is, started-count, started-next, started-storing, required-some}
-use Rattle.sending.specs.declared.isoch.Pen.{Pen}
-use Rattle.sending.specs.Sent.{stagesPut, controlPut, packetPut, packetsPut, allPut, penOf, sentIsoch, plainPut, sentBy}
-use Rattle.sending.specs.Stride.{putTrb, strides, closed}
+use Rattle.isoch.specs.declared.Pen.{Pen}
+use Rattle.striding.specs.Controls.{stagesPut, controlPut}
+use Rattle.isoch.specs.Packed.{packetPut, packetsPut}
+use Rattle.sending.specs.Sent.{penOf, sentIsoch, plainPut, sentBy}
+use Rattle.striding.specs.Stride.{putTrb, strides, closed}
 use Rattle.sending.proofs.StrideLaws.{Ends, strides-end}
 
 abbrev Whole : Type 0

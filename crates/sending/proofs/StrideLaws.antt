@@ -1,22 +1,19 @@
 -- A submission under way, TRB by TRB, ends as it does store by store: so many strides and the close are what `dock`'s stores come to. Assumes nothing.
-use Prim.Native.Nat.{ℕ, zero, suc, _+_, _<_, _≤_}
-use mathlib.Core.Bool.{Bool, true, false, not, _&&_, false≢true}
+use Prim.Native.Nat.{ℕ, zero, suc, _+_}
+use mathlib.Core.Bool.{Bool, true, false}
 use mathlib.Core.List.{List}
-use mathlib.Core.Logic.{_⊎_, inl, inr, ⊎-elim}
+use mathlib.Core.Logic.{_⊎_, ⊎-elim}
 use mathlib.Core.Path.{_≡_, refl, sym, ap, subst, _∙_}
 use native.Mathlib.Omega.{arith}
 use borrow.Author.Tests.{eq-eqb, ne-eqb}
 use lib.Dec.{eqb}
 use lib.ListN.{length}
-use Rattle.base.specs.First.{pick}
 use Rattle.base.proofs.Compare.{same-or-not}
-use Rattle.ring.specs.Ring.{storeAt, onward, around, linkTrb}
+use Rattle.ring.specs.Ring.{storeAt}
 use Rattle.ring.specs.declared.Position.{Position}
-use Rattle.table.specs.Finished.{clearPlace}
-use Rattle.table.specs.Records.{control, recordAt}
-use Rattle.table.specs.declared.records.Record.{Record}
+use Rattle.records.specs.Records.{control}
+use Rattle.records.specs.declared.Record.{Record}
 use Rattle.dock.specs.declared.Endpoint.{Endpoint}
-use Rattle.dock.specs.declared.Stored.{Stored}
 use Rattle.dock.specs.declared.StoredAll.{StoredAll}
 use Rattle.dock.specs.declared.StoredOne.{StoredOne}
 use Rattle.dock.specs.declared.Submitted.the-variants as submitted
@@ -27,11 +24,11 @@ use Rattle.dock.specs.Store.{storeNo, store, stepped, ringStored, finishedStore
 use Rattle.dock.specs.Stores.{trbCount, setupTrb}
 use Rattle.dock.specs.Submit.{afterStore, finish}
 use Rattle.dock.proofs.FinishLaws.{still}
-use Rattle.dock.proofs.NextLaws.{because, is-next, Storing, store-admits}
+use Rattle.dock.proofs.NextLaws.{is-next, Storing, store-admits}
 use Rattle.dock.proofs.RefusalLaws.{store-acts}
 use Rattle.dock.proofs.StepLaws.{setup-is-last, store-goes-on, store-ends}
-use Rattle.dock.proofs.StoreLaws.{flyingRecord, nextStore, steppedNext, lastStore, ring-length, finished-length}
-use Rattle.sending.specs.Stride.{linked, linkedRing, putTrb, nextPut, strode, strides, closed}
+use Rattle.dock.proofs.StoreLaws.{flyingRecord, nextStore, ring-length, finished-length}
+use Rattle.striding.specs.Stride.{putTrb, nextPut, strode, strides, closed}
 
 abbrev Whole : Type 0
 Whole = StoredAll × List ℕ × List ℕ

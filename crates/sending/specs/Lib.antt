@@ -1,3 +1,2 @@
--- The definitions that the contracts of a whole submission's parts cite.
-pub mod Stride
+-- What the contracts of `sending` cite.
 pub mod Sent

@@ -1,79 +1,26 @@
 -- A whole submission by its kind, with the packet lengths read as they were given.
-use Prim.Native.Nat.{ℕ, zero, suc, _+_, _*_, _%_, _^_, _<_, _≤_, max}
-use mathlib.Core.Bool.{Bool, true, false, not}
+use Prim.Native.Nat.{ℕ, _+_, _*_, _<_, _≤_}
 use mathlib.Core.List.{List}
 use mathlib.Core.Path.{_≡_}
 use lib.Dec.{eqb}
-use lib.ListN.{length, getD}
+use lib.ListN.{length}
 use lib.Seq.{paste}
 use Rattle.base.specs.First.{pick}
-use Rattle.bursts.specs.Bursts.{burstsOf}
-use Rattle.trb.specs.declared.Trb.{Trb}
-use Rattle.trb.specs.declared.Trb.the-variants.{Isoch}
-use Rattle.ring.specs.Ring.{storeAt}
 use Rattle.ring.specs.declared.Position.{Position}
 use Rattle.ids.specs.Free.{recordCount}
-use Rattle.table.specs.Packets.{packetCount}
-use Rattle.table.specs.Records.{control, isoch}
-use Rattle.table.specs.declared.records.Record.{Record}
+use Rattle.packets.specs.Packets.{packetCount}
+use Rattle.records.specs.Records.{control, isoch}
+use Rattle.records.specs.declared.Record.{Record}
 use Rattle.dock.specs.declared.Endpoint.{Endpoint}
-use Rattle.dock.specs.declared.Periodic.{Periodic}
-use Rattle.dock.specs.declared.Shape.{Shape}
 use Rattle.dock.specs.declared.StoredAll.{StoredAll}
 use Rattle.dock.specs.declared.Submitted.the-variants.{Done}
 use Rattle.dock.specs.Limits.{ringSize, packetsSize}
 use Rattle.dock.specs.Start.{atLeastOne}
 use Rattle.dock.specs.State.{idle, moved}
-use Rattle.dock.specs.Stores.{field17, setupTrb, dataTrb, statusTrb, normalTrb}
-use Rattle.sending.specs.declared.isoch.Pen.{Pen}
-use Rattle.sending.specs.Stride.{linked, putTrb}
-
--- ---- one TRB, or a control TD
-
-abbrev pub putSame : Shape → Position → Trb → List ℕ → List ℕ → Position × List ℕ × List ℕ
-putSame shape p trb ring finished = putTrb shape p trb (p .cycle) ring finished
-
--- Data where there is any, then status.
-unfoldable pub stagesPut : Shape → Record → Position × List ℕ × List ℕ → Position × List ℕ × List ℕ
-stagesPut shape v s =
-    let d = pick (eqb (v .length) 0) s (putSame shape (s .0) (dataTrb v) (s .1) (s .2)) in putSame shape (d .0) (statusTrb v) (d .1) (d .2)
-
--- "A control TD stores its setup with the opposite cycle, the rest as usual, then the setup again with the right one."
-unfoldable pub controlPut : Shape → Position → Record → List ℕ → List ℕ → Position × List ℕ × List ℕ
-controlPut shape p v ring finished =
-    let s = stagesPut shape v (putTrb shape p (setupTrb v) (not (p .cycle)) ring finished) in
-    (s .0, storeAt (s .1) (p .place) (setupTrb v) (p .cycle), s .2)
-
--- ---- the packets of an ISO request
-
--- The TRB of a packet of so many bytes; `more` says that it is not the last.
-abbrev pub packetTrb : Periodic → Bool → Pen → ℕ → Bool → Trb
-packetTrb s incoming pen size more =
-    Isoch (pen .address) (field17 size) (burstsOf size (s .packet) (s .burst) .count) 0 incoming false true more
-    (burstsOf size (s .packet) (s .burst) .last) 0 true
-
--- Behind a packet: the running address and the next frame number.
-abbrev pub penOn : Periodic → Pen → ℕ → Position → Pen
-penOn s pen size p =
-    record { at = p; address = (pen .address + size) % 2 ^ 64; frame = (pen .frame + max 1 (s .interval)) % 2048 }
-
--- One packet's store, and the pen behind it.
-unfoldable pub packetPut : Shape → Periodic → Bool → ℕ → Bool → Pen → List ℕ → List ℕ → Pen × List ℕ × List ℕ
-packetPut shape s incoming size more pen ring finished =
-    let d = putSame shape (pen .at) (packetTrb s incoming pen size more) ring finished in (penOn s pen size (d .0), d .1, d .2)
-
--- So many packets, from packet k on.
-unfoldable pub packetsPut : ℕ → ℕ → Shape → Periodic → Bool → List ℕ → Pen → List ℕ → List ℕ → Pen × List ℕ × List ℕ
-packetsPut zero k shape s incoming sizes pen ring finished = (pen, ring, finished)
-packetsPut (suc n) k shape s incoming sizes pen ring finished =
-    let d = packetPut shape s incoming (getD sizes k 0) (not (eqb (k + 1) (length sizes))) pen ring finished in
-    packetsPut n (k + 1) shape s incoming sizes (d .0) (d .1) (d .2)
-
--- All of them.
-abbrev pub allPut : Shape → Periodic → Bool → List ℕ → Pen → List ℕ → List ℕ → Pen × List ℕ × List ℕ
-allPut shape s incoming sizes pen ring finished = packetsPut (length sizes) 0 shape s incoming sizes pen ring finished
-
--- ---- the whole
+use Rattle.dock.specs.Stores.{normalTrb}
+use Rattle.isoch.specs.declared.Pen.{Pen}
+use Rattle.striding.specs.Controls.{putSame, controlPut}
+use Rattle.isoch.specs.Packed.{allPut}
 
 -- The end: the id and the doorbell word, the pen's position and frame, nothing under way.
 abbrev pub ended : Endpoint → ℕ → Position → ℕ → StoredAll

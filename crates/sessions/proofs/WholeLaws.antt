@@ -1,7 +1,7 @@
 -- The line of a request that is admitted makes all of its stores: it leaves the endpoint, the ring and every table as the whole submission does in one
 -- call, and nothing is under way afterwards (`line-is-whole`, `line-settles`). Assumes nothing.
-use Prim.Native.Nat.{ℕ, zero, suc, _+_, _-_, _≤_, _<_}
-use mathlib.Core.Bool.{Bool, true, false, _||_, _&&_, false≢true}
+use Prim.Native.Nat.{ℕ, zero, suc, _-_, _≤_}
+use mathlib.Core.Bool.{Bool, true, false, _||_, false≢true}
 use mathlib.Core.List.{List}
 use mathlib.Core.Path.{_≡_, refl, sym, ap, _∙_}
 use native.Mathlib.Omega.{arith}

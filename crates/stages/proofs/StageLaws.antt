@@ -9,11 +9,11 @@ use borrow.Author.Tests.{eq-eqb, ne-eqb}
 use lib.Dec.{eqb}
 use Rattle.base.specs.First.{pick}
 use Rattle.base.proofs.Compare.{same-or-not}
-use Rattle.table.specs.Finished.{finishedAt}
-use Rattle.table.specs.Records.{recordedWord, setWord}
-use Rattle.table.specs.declared.finished.Finished.{Finished}
-use Rattle.table.specs.declared.finished.Finished.the-variants as place
-use Rattle.table.specs.declared.records.Record.{Record}
+use Rattle.finished.specs.Finished.{finishedAt}
+use Rattle.records.specs.Records.{recordedWord, setWord}
+use Rattle.finished.specs.declared.Finished.{Finished}
+use Rattle.finished.specs.declared.Finished.the-variants as place
+use Rattle.records.specs.declared.Record.{Record}
 use Rattle.trb.specs.declared.Words.{Words}
 use Rattle.dock.specs.Reclaim.{onward, ends, stageBy, statusBy, statusPlace, dataSeen, recordedBy, recordedLength, remainingOf, reclaimControl}
 use Rattle.dock.specs.Worth.{movedBytes}

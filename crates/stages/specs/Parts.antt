@@ -1,11 +1,11 @@
 -- The part of a control request's reclaim behind its setup.
 use Prim.Native.Nat.{ℕ}
 use mathlib.Core.List.{List}
-use Rattle.table.specs.Finished.{finishedAt}
-use Rattle.table.specs.Records.{recordedWord, setWord}
-use Rattle.table.specs.declared.finished.Finished.{Finished}
-use Rattle.table.specs.declared.finished.Finished.the-variants as place
-use Rattle.table.specs.declared.records.Record.{Record}
+use Rattle.finished.specs.Finished.{finishedAt}
+use Rattle.records.specs.Records.{recordedWord, setWord}
+use Rattle.finished.specs.declared.Finished.{Finished}
+use Rattle.finished.specs.declared.Finished.the-variants as place
+use Rattle.records.specs.declared.Record.{Record}
 use Rattle.dock.specs.Reclaim.{statusBy, stageBy, afterStage, recordedBy, statusPlace}
 use Rattle.dock.specs.declared.Endpoint.{Endpoint}
 use Rattle.dock.specs.declared.ReclaimedOne.{ReclaimedOne}

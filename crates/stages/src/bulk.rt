@@ -7,8 +7,8 @@ ghost use Prim.Native.Nat.{_<_};
 ghost use Rattle.completing.specs.Flying.{Flying};
 use dock::Endpoint;
 use dock::ReclaimedOne;
-use table::finished::Finished;
-use table::records::Record;
+use finished::Finished;
+use records::Record;
 use completing::completed;
 use completing::less;
 use completing::unfinished;
@@ -33,6 +33,6 @@ pub fn reclaim_bulk(e: Endpoint, finished: &[u32], v: Record, number: usize) -> 
     ensures { λ r. ⌜ r ≡ reclaimBulk e (now (finished .entry)) v number ⌝ }
 {
     let place = v.place as usize;
-    let f = table::finished::get_finished(finished, place);
+    let f = finished::get_finished(finished, place);
     by_event(f, e, v, number)
 }

@@ -5,16 +5,16 @@ ghost use lib.Dec.{eqb};
 ghost use lib.ListN.{length};
 ghost use Rattle.base.specs.First.{pick};
 ghost use Rattle.ids.specs.Free.{recordCount, recordWords};
-ghost use Rattle.table.specs.Finished.{finishedAt};
+ghost use Rattle.finished.specs.Finished.{finishedAt};
 ghost use Rattle.dock.specs.Reclaim.{stageBy, statusBy, recordedBy, recordedLength, placeOf, statusPlace, dataSeen, reclaimControl};
 ghost use Rattle.completing.specs.Flying.{Flying};
 ghost use Rattle.stages.specs.Parts.{afterSetup};
 ghost use Rattle.stages.specs.Values.{seenOf};
 use dock::Endpoint;
 use dock::ReclaimedOne;
-use table::finished::Finished;
-use table::records::RECORDED;
-use table::records::Record;
+use finished::Finished;
+use records::RECORDED;
+use records::Record;
 use completing::completed;
 use completing::less;
 use completing::unfinished;
@@ -91,7 +91,7 @@ fn data_seen(e: Endpoint, finished: &[u32], v: Record, number: usize) -> Finishe
         return Finished::Nothing;
     }
     let place = place_at(e.shape.slots, v.place, 1);
-    table::finished::get_finished(finished, place)
+    finished::get_finished(finished, place)
 }
 
 // How many TRBs behind the setup the status stands.
@@ -106,7 +106,7 @@ fn status_seen(e: Endpoint, finished: &[u32], v: Record, number: usize) -> Finis
     ensures { λ r. ⌜ r ≡ finishedAt (now (finished .entry)) (statusPlace e v) ⌝ }
 {
     let place = place_at(e.shape.slots, v.place, status_step(v.length));
-    table::finished::get_finished(finished, place)
+    finished::get_finished(finished, place)
 }
 
 // A status event completes.
@@ -137,7 +137,7 @@ fn after_setup(
     ensures { λ r. ⌜ (r, now (records .exit)) ≡ afterSetup seen e (now (finished .entry)) (now (records .entry)) v number ⌝ }
 {
     let recorded = recorded_by(seen, v);
-    table::records::set_word(records, number, RECORDED, recorded);
+    records::set_word(records, number, RECORDED, recorded);
     let data = stage_by(seen, e, v, number);
     match data {
         Stage::Ends(r) => r,
@@ -159,7 +159,7 @@ pub fn reclaim_control(
     ensures { λ r. ⌜ (r, now (records .exit)) ≡ reclaimControl e (now (finished .entry)) (now (records .entry)) v number ⌝ }
 {
     let place = v.place as usize;
-    let f = table::finished::get_finished(finished, place);
+    let f = finished::get_finished(finished, place);
     let setup = stage_by(f, e, v, number);
     match setup {
         Stage::Ends(r) => r,

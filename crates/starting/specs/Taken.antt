@@ -5,7 +5,7 @@ use Rattle.base.specs.Part.{put}
 use Rattle.mask.specs.Compute.{lowestClear, setBit}
 use Rattle.ids.specs.Free.{recordWords, freeIn}
 use Rattle.ids.specs.Order.{afterId}
-use Rattle.table.specs.Records.{recordList}
+use Rattle.records.specs.Records.{recordList}
 use Rattle.dock.specs.declared.Endpoint.{Endpoint}
 use Rattle.dock.specs.declared.Request.{Request}
 use Rattle.dock.specs.Start.{numberFrom, begun, recordTaken, startedEndpoint, startedRecords, writePackets}

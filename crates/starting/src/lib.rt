@@ -8,7 +8,7 @@ ghost use Prim.Native.Nat.{_+_, _*_, _^_, _≤_, _<_};
 ghost use lib.ListN.{length};
 ghost use lib.Seq.{paste};
 ghost use Rattle.mask.specs.Compute.{lowestClear};
-ghost use Rattle.table.specs.Packets.{packetCount};
+ghost use Rattle.packets.specs.Packets.{packetCount};
 ghost use Rattle.dock.specs.Start.{numberFrom, atLeastOne, writePackets};
 ghost use Rattle.requests.specs.Counts.{givenBy, requiredBy};
 ghost use Rattle.starting.specs.Taken.{startedBy, takenWith, begunWith};
@@ -19,7 +19,7 @@ use dock::Endpoint;
 use dock::Request;
 use dock::Work;
 use mask::Found;
-use table::records::Record;
+use records::Record;
 
 // "The lowest clear bit is taken."
 fn record_taken(occupancy: u64) -> usize
@@ -49,7 +49,7 @@ fn write_lengths(packets: &mut [u64], number: usize, lengths: &[u64])
     requires { ⌜ (packetCount * number + packetCount ≤ length (now packets)) × (length (now lengths) ≤ packetCount) ⌝ }
     ensures { λ _. ⌜ now (packets .exit) ≡ paste (now (packets .entry)) (packetCount * number) (atLeastOne (now (lengths .entry))) (length (atLeastOne (now (lengths .entry)))) ⌝ }
 {
-    let start = table::packets::PACKETS * number;
+    let start = packets::PACKETS * number;
     if lengths.len() == 0 {
         packets[start] = 0;
         return;
@@ -127,7 +127,7 @@ pub fn take(e: Endpoint, records: &mut [u64], request: Request, count: usize) ->
     let number = record_taken(e.account.occupancy);
     let taken = ids::free_id(records, e.account.occupancy, e.account.next);
     let v = requests::record_for(request, count, taken.id, e.at.place);
-    table::records::put_record(records, number, v);
+    records::put_record(records, number, v);
     Begun {
         endpoint: started(e, taken.next, number, request, count),
         kept: v,

@@ -1,6 +1,6 @@
 -- A store: its tests as facts, and its parts as the code makes them. Assumes nothing.
-use Prim.Native.Nat.{ℕ, _≤_}
-use mathlib.Core.Bool.{Bool, true, false, not, _&&_, and-eq-true-iff}
+use Prim.Native.Nat.{ℕ}
+use mathlib.Core.Bool.{_&&_, and-eq-true-iff}
 use mathlib.Core.List.{List}
 use mathlib.Core.Path.{_≡_, refl}
 use native.Mathlib.Omega.{arith}
@@ -8,18 +8,20 @@ use borrow.Author.Tests.{eqb-true, not-false}
 use lib.Dec.{eqb}
 use lib.ListN.{length}
 use Rattle.base.proofs.Chosen.{quiet}
-use Rattle.table.specs.Records.{recordAt}
-use Rattle.table.specs.declared.records.Record.{Record}
-use Rattle.dock.specs.Fit.{Next, theLink, theTrb, theSetup, none, fitsWith}
+use Rattle.records.specs.Records.{recordAt}
+use Rattle.records.specs.declared.Record.{Record}
+use Rattle.dock.specs.Fit.{theLink, theTrb, theSetup, none, fitsWith}
 use Rattle.dock.specs.Limits.{ringSize, packetsSize}
-use Rattle.dock.specs.Store.{storeTests, storeNo, stepped, slotStored, ringStored, finishedStored, settled, storedAnswer}
+use Rattle.dock.specs.Store.{storeTests, storeNo, stepped, slotStored, ringStored, finishedStored, storedAnswer}
 use Rattle.dock.specs.Stores.{trbOf, packetSize}
 use Rattle.dock.specs.declared.Endpoint.{Endpoint}
 use Rattle.dock.specs.declared.StoredOne.{StoredOne}
 use Rattle.checks.proofs.Laws.{fit, fit-with, count-most}
 use Rattle.dock.proofs.TestLaws.{on-course}
 use Rattle.storing.specs.Ready.{Ready}
-use Rattle.storing.specs.Steps.{controlTrb, trbWith, advancedBy, concludedBy, linkBy, trbBy, setupBy, storedWith}
+use Rattle.trbs.specs.Trbs.{controlTrb, trbWith}
+use Rattle.steps.specs.Steps.{advancedBy, concludedBy}
+use Rattle.storing.specs.Stored.{linkBy, trbBy, setupBy, storedWith}
 
 -- Where no test holds, a store has what it needs.
 pub ready : (e : Endpoint) (ring finished : ℕ) (records : List ℕ) (packets : ℕ) → storeNo e ring finished records packets ≡ 0

@@ -1,3 +1,3 @@
--- The definitions that the contracts of a store's parts cite.
+-- What the contracts of `storing` cite.
 pub mod Ready
-pub mod Steps
+pub mod Stored

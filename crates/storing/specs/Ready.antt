@@ -1,10 +1,8 @@
 -- What a store needs of its tests, as facts on numbers.
 use Prim.Native.Nat.{ℕ, _+_, _≤_, _<_}
-use mathlib.Core.List.{List}
 use mathlib.Core.Path.{_≡_}
-use lib.ListN.{length}
 use Rattle.ids.specs.Free.{recordCount}
-use Rattle.table.specs.Packets.{packetCount}
+use Rattle.packets.specs.Packets.{packetCount}
 use Rattle.dock.specs.Limits.{ringSize, recordsSize, packetsSize}
 use Rattle.dock.specs.declared.Endpoint.{Endpoint}
 

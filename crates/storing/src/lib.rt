@@ -2,5 +2,107 @@
 //
 // `store_no`, `idle` and `at_least_one` take any input. `store_one` asks what the tests showed (`Ready`); `next_store` of the crate `building`
 // calls it behind them.
-pub mod act;
-pub mod trbs;
+//
+// One store of a submission: its refusals, and the store by what is next.
+ghost use mathlib.Core.Path.{_≡_};
+ghost use mathlib.Core.Bool.{not, _&&_};
+ghost use Prim.Native.Nat.{_+_, _*_, _≤_, _<_};
+ghost use lib.Dec.{eqb};
+ghost use lib.ListN.{length};
+ghost use Rattle.packets.specs.Packets.{packetCount};
+ghost use Rattle.dock.specs.Limits.{ringSize, packetsSize};
+ghost use Rattle.dock.specs.Fit.{fitsWith};
+ghost use Rattle.dock.specs.State.{moved};
+ghost use Rattle.dock.specs.Store.{storeNo, worked};
+ghost use Rattle.storing.specs.Ready.{Ready};
+ghost use Rattle.storing.specs.Stored.{linkBy, trbBy, setupBy, storedBy};
+use checks::Next;
+use dock::Endpoint;
+use dock::StoredOne;
+use records::Record;
+
+// Row 1: the endpoint, its records and the other tables fit.
+fn is_unfit(e: Endpoint, ring: usize, finished: usize, records: &[u64], packets: usize) -> bool
+    ensures { λ r. ⌜ r ≡ not (fitsWith e (now (records .entry)) && eqb ring (ringSize (e .shape .slots)) && eqb finished (ringSize (e .shape .slots)) && eqb packets packetsSize) ⌝ }
+{
+    if !checks::fits_with(e, records) {
+        return true;
+    }
+    if !limits::is_sized(ring, e.shape.slots) {
+        return true;
+    }
+    if !limits::is_sized(finished, e.shape.slots) {
+        return true;
+    }
+    packets != checks::PACKETS_SIZE
+}
+
+// Row 1, then 10: "a store .. with none under way".
+pub fn store_no(e: Endpoint, ring: usize, finished: usize, records: &[u64], packets: usize) -> u32
+    ensures { λ r. ⌜ r ≡ storeNo e ring finished (now (records .entry)) packets ⌝ }
+{
+    let no = base::earlier(0, is_unfit(e, ring, finished, records, packets), 1);
+    base::earlier(no, !e.work.busy, 10)
+}
+
+// The link's store.
+fn store_link(e: Endpoint, v: Record, ring: &mut [u32]) -> StoredOne
+    requires { ⌜ (4 * e .at .place + 4 ≤ length (now ring)) × (0 < e .shape .slots) ⌝ }
+    ensures { λ r. ⌜ (r, now (ring .exit)) ≡ linkBy e v (now (ring .entry)) ⌝ }
+{
+    let p = e.at;
+    let q = ring::next_index(ring, p, e.shape.base, false);
+    let w = e.work;
+    let after = steps::moved(e, q, e.periodic.frame, steps::worked(w, w.stored, w.address));
+    steps::concluded(after, v, p.place)
+}
+
+// A TRB's store: "a TRB's first store clears" its place.
+fn store_trb(e: Endpoint, v: Record, size: u32, ring: &mut [u32], finished: &mut [u32]) -> StoredOne
+    requires { ⌜ (4 * e .at .place + 4 ≤ length (now ring)) × (4 * e .at .place + 4 ≤ length (now finished)) × (e .at .place + 1 ≤ 4096) × (e .work .stored ≤ packetCount) × (0 < e .shape .slots) ⌝ }
+    ensures { λ r. ⌜ (r, now (ring .exit), now (finished .exit)) ≡ trbBy e v size (now (ring .entry)) (now (finished .entry)) ⌝ }
+{
+    let place = e.at.place;
+    let trb = trbs::trb_of(e, v, size, e.work.stored);
+    ring::set_transfer_trb(ring, place, trb, steps::first_cycle(e, v));
+    finished::clear_finished(finished, place);
+    steps::concluded(steps::advanced(e, v, size), v, place)
+}
+
+// The setup's second store, with the right cycle.
+fn store_setup(e: Endpoint, v: Record, ring: &mut [u32]) -> StoredOne
+    requires { ⌜ (4 * e .work .place + 4 ≤ length (now ring)) × (e .work .stored ≤ packetCount) × (0 < e .shape .slots) ⌝ }
+    ensures { λ r. ⌜ (r, now (ring .exit)) ≡ setupBy e v (now (ring .entry)) ⌝ }
+{
+    let p = e.at;
+    let w = e.work;
+    let place = w.place;
+    ring::set_transfer_trb(ring, place, trbs::setup_trb(v), w.cycle);
+    let after = steps::moved(e, p, e.periodic.frame, steps::worked(w, w.stored + 1, w.address));
+    steps::concluded(after, v, place)
+}
+
+// The store that is next.
+pub fn store_one(
+    e: Endpoint,
+    ring: &mut [u32],
+    finished: &mut [u32],
+    records: &[u64],
+    packets: &[u64],
+) -> StoredOne
+    requires { ⌜ Ready e (length (now ring)) (length (now finished)) (length (now records)) (length (now packets)) ⌝ }
+    ensures { λ r. ⌜ (r, now (ring .exit), now (finished .exit)) ≡ storedBy e (now (ring .entry)) (now (finished .entry)) (now (records .entry)) (now (packets .entry)) ⌝ }
+{
+    let number = e.work.number;
+    let v = records::record_at(records, number);
+    let next = checks::next_of(e, v);
+    match next {
+        Next::Link => store_link(e, v, ring),
+        Next::Trb => {
+            let p = packets::packet_at(packets, number, e.work.stored);
+            store_trb(e, v, p.requested, ring, finished)
+        }
+        Next::Setup => store_setup(e, v, ring),
+        Next::Nothing => steps::concluded(e, v, 0),
+    }
+}

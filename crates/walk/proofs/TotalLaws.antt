@@ -5,7 +5,7 @@ use mathlib.Core.Path.{_≡_, refl}
 use native.Mathlib.Nat.{mod-lt}
 use native.Mathlib.Numerals.{add-one}
 use native.Mathlib.Omega.{arith}
-use Rattle.table.specs.Packets.{packetAt}
+use Rattle.packets.specs.Packets.{packetAt}
 use Rattle.dock.specs.Reclaim.{total}
 
 -- What is counted of a packet has 31 bits.

@@ -2,8 +2,8 @@
 use Prim.Native.Nat.{ℕ, zero, suc}
 use mathlib.Core.List.{List}
 use lib.ListN.{set, replicate}
-use Rattle.table.specs.Packets.{packetCount, packetAt}
-use Rattle.table.specs.declared.packets.Packet.{Packet}
+use Rattle.packets.specs.Packets.{packetCount, packetAt}
+use Rattle.packets.specs.declared.Packet.{Packet}
 use Rattle.marking.specs.Marking.{nowhere}
 
 unfoldable pub loaded : ℕ → List ℕ → ℕ → List Packet

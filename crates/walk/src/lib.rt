@@ -4,7 +4,7 @@ ghost use mathlib.Core.Path.{_≡_};
 ghost use Prim.Native.Nat.{_*_, _≤_, _<_};
 ghost use lib.ListN.{length, getD};
 ghost use Rattle.ids.specs.Free.{recordCount};
-ghost use Rattle.table.specs.Packets.{packetCount};
+ghost use Rattle.packets.specs.Packets.{packetCount};
 ghost use Rattle.dock.specs.Reclaim.{total, sweep, reclaimIso};
 ghost use Rattle.marking.specs.Marking.{nowhere};
 ghost use Rattle.marking.specs.Words.{sweptBy, keepOne, keepBelow};
@@ -17,9 +17,9 @@ use marking::Block;
 use marking::FOUND;
 use marking::REFUSED;
 use marking::Standing;
-use table::packets::PACKETS;
-use table::packets::Packet;
-use table::records::Record;
+use packets::PACKETS;
+use packets::Packet;
+use records::Record;
 use completing::completed;
 use completing::unfinished;
 
@@ -43,7 +43,7 @@ fn load(packets: &[u64], number: usize, count: usize) -> [Packet; PACKETS]
     let mut held = [none; PACKETS];
     let mut i: usize = 0;
     while i < count {
-        let p = table::packets::packet_at(packets, number, i);
+        let p = packets::packet_at(packets, number, i);
         held[i] = p;
         i += 1;
     }
@@ -55,12 +55,12 @@ fn keep(packets: &mut [u64], number: usize, k: usize, p: Packet)
     requires { ⌜ (length (now packets) ≡ recordCount * packetCount) × (number < recordCount) × (k < packetCount) ⌝ }
     ensures { λ _. ⌜ now (packets .exit) ≡ keepOne (now (packets .entry)) number k p ⌝ }
 {
-    let was = table::packets::packet_at(packets, number, k);
+    let was = packets::packet_at(packets, number, k);
     if was.marked {
         return;
     }
     if p.marked {
-        table::packets::put_packet(packets, number, k, p);
+        packets::put_packet(packets, number, k, p);
     }
 }
 
@@ -84,7 +84,7 @@ fn total_of(packets: &[u64], number: usize, k: usize) -> u64
     let mut sum: u64 = 0;
     let mut i: usize = 0;
     while i < k {
-        let p = table::packets::packet_at(packets, number, i);
+        let p = packets::packet_at(packets, number, i);
         sum += p.actual as u64;
         i += 1;
     }

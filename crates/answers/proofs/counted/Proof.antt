@@ -1,8 +1,8 @@
-use Rattle.table.specs.Packets.{packetAt}
-use Rattle.table.specs.declared.packets.Packet.{Packet}
+use Rattle.packets.specs.Packets.{packetAt}
+use Rattle.packets.specs.declared.Packet.{Packet}
 -- `counted` meets its contract. Assumes nothing.
-use Prim.Native.Nat.{_*_, _+_, _<_, _≤_}
-use mathlib.Core.Path.{_≡_, sym, ap, _∙_}
+use Prim.Native.Nat.{_*_, _+_}
+use mathlib.Core.Path.{ap}
 use native.Mathlib.Omega.{arith}
 use borrow.Author.Tests.{lt-ltb, le-ltb}
 use denote.Ref.{now}

@@ -1,6 +1,4 @@
 -- `put_commanded` meets its contract. Assumes nothing.
-use mathlib.Core.Path.{_≡_, sym, ap, _∙_}
-use Rattle.lines.proofs.PageLaws.{then}
 use Rattle.answers.specs.Text.{commandedLine}
 use borrow.Author.Needs.{needs}
 use Rattle.answers.proofs.put_commanded.Statement.{statement}

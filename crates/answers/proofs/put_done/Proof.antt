@@ -1,7 +1,4 @@
 -- `put_done` meets its contract. Assumes nothing.
-use Prim.Native.Nat.{ℕ}
-use mathlib.Core.List.{_++_}
-use mathlib.Core.Path.{_≡_, sym, ap, _∙_}
 use Rattle.lines.proofs.PageLaws.{then}
 use Rattle.answers.specs.Text.{doneLine}
 use borrow.Author.Needs.{needs}

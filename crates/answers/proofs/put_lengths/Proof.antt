@@ -1,6 +1,6 @@
 -- `put_lengths` meets its contract. The loop's invariant: the lengths that are left, put behind what stands, give the whole page. Assumes nothing.
 use mathlib.Core.List.{_++_}
-use Prim.Native.Nat.{ℕ, zero, suc, _+_, _-_, _≤_, _<_}
+use Prim.Native.Nat.{ℕ, suc, _+_, _-_, _≤_}
 use mathlib.Core.Path.{_≡_, refl, sym, ap, _∙_}
 use native.Mathlib.Omega.{arith}
 use borrow.Author.Needs.{needs}
@@ -8,7 +8,7 @@ use lib.ListN.{length}
 use denote.Ref.{now}
 use Rattle.lines.specs.Page.{Page, putAll, decimalField}
 use Rattle.lines.proofs.PageLaws.{put-both}
-use Rattle.answers.specs.Text.{countedAt, lengthsText}
+use Rattle.answers.specs.Text.{lengthsText}
 use Rattle.answers.proofs.put_lengths.Statement.{statement}
 use Rattle.answers.proofs.put_lengths.Tie as tie
 

@@ -1,6 +1,4 @@
 -- `put_outcome` meets its contract. Assumes nothing.
-use mathlib.Core.Path.{_≡_, sym, ap, _∙_}
-use Rattle.lines.proofs.PageLaws.{then}
 use Rattle.answers.specs.Text.{outcomeLine}
 use borrow.Author.Needs.{needs}
 use Rattle.answers.proofs.put_outcome.Statement.{statement}

@@ -1,5 +1,4 @@
 -- `put_stored` meets its contract. Assumes nothing.
-use mathlib.Core.Path.{_≡_, sym, ap, _∙_}
 use Rattle.lines.proofs.PageLaws.{then}
 use Rattle.answers.specs.Text.{storedLines}
 use borrow.Author.Needs.{needs}

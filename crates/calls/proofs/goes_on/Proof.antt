@@ -1,6 +1,4 @@
 -- `goes_on` meets its contract. Assumes nothing.
-use mathlib.Core.Path.{sym, ap}
-use Rattle.calls.specs.Calls.{goesOn}
 use borrow.Author.Needs.{needs}
 use Rattle.calls.proofs.goes_on.Statement.{statement}
 use Rattle.calls.proofs.goes_on.Tie as tie

@@ -1,7 +1,5 @@
 -- `handed` meets its contract. Assumes nothing.
-use Prim.Native.Nat.{ℕ}
-use mathlib.Core.List.{List}
-use mathlib.Core.Path.{_≡_, ap, _∙_}
+use mathlib.Core.Path.{ap, _∙_}
 use denote.Ref.{now}
 use Rattle.lines.specs.Page.{Page}
 use Rattle.calls.specs.Calls.{turn, handedBy, handed}

@@ -1,5 +1,5 @@
 -- `pointed` meets its contract. Assumes nothing.
-use mathlib.Core.Path.{_≡_, ap, _∙_}
+use mathlib.Core.Path.{ap, _∙_}
 use denote.Ref.{now}
 use Rattle.dock.specs.declared.Pointed.{Pointed}
 use Rattle.lines.specs.Page.{Page, putAll}

@@ -1,5 +1,5 @@
 -- `submitted` meets its contract. Assumes nothing.
-use mathlib.Core.Path.{_≡_, ap, _∙_}
+use mathlib.Core.Path.{ap, _∙_}
 use denote.Ref.{now}
 use Rattle.lines.specs.Page.{Page}
 use Rattle.calls.specs.Calls.{turn, submittedBy, submitted}

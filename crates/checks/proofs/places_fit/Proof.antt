@@ -1,7 +1,7 @@
 -- `checks::places_fit` meets its contract: its two halves. Assumes nothing.
 use Rattle.base.proofs.Decide.{passed, failed}
 use Rattle.dock.specs.Fit.{placesFit}
-use Rattle.checks.specs.Step.{placeFits, setupFits}
+use Rattle.limits.specs.Places.{placeFits, setupFits}
 use borrow.Author.Needs.{needs}
 use Rattle.checks.proofs.places_fit.Statement.{statement}
 use Rattle.checks.proofs.places_fit.Tie as tie

@@ -1,5 +1,4 @@
 -- `checks::strays` meets its contract, by its tests. Assumes nothing.
-use mathlib.Core.Path.{sym}
 use borrow.Author.Tests.{not-true, not-false, eq-eqb, ne-eqb, le-ltb, lt-ltb}
 use Rattle.base.proofs.Decide.{passed, failed}
 use Rattle.dock.specs.Fit.{strays}

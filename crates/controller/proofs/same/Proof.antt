@@ -1,6 +1,6 @@
 -- `controller::same` meets its contract. Assumes nothing.
 use mathlib.Core.Bool.{Bool, true, false, Bool·beq}
-use mathlib.Core.Path.{_≡_, refl, sym}
+use mathlib.Core.Path.{_≡_, refl}
 use borrow.Author.Needs.{needs}
 use Rattle.controller.proofs.same.Statement.{statement}
 use Rattle.controller.proofs.same.Tie as tie

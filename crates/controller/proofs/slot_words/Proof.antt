@@ -1,8 +1,8 @@
 -- `controller::slot_words` meets its contract: past the end all four words are 0. Assumes nothing.
-use Prim.Native.Nat.{ℕ, _+_, _*_, _≤_}
-use mathlib.Core.Path.{_≡_, sym, ap, _∙_}
+use Prim.Native.Nat.{_+_, _*_}
+use mathlib.Core.Path.{_≡_}
 use native.Mathlib.Omega.{arith}
-use lib.ListN.{length, getD}
+use lib.ListN.{getD}
 use denote.Ref.{now}
 use Rattle.trb.specs.Layouts.{wordsAt}
 use Rattle.controller.proofs.ReadLaws.{read-past}

@@ -1,6 +1,6 @@
 -- `controller::step_at` meets its contract, by what the controller does. Assumes nothing.
-use mathlib.Core.Path.{_≡_, sym, ap, _∙_}
-use Rattle.controller.specs.Rule.{goes, stepAt}
+use mathlib.Core.Path.{_≡_}
+use Rattle.controller.specs.Rule.{goes}
 use Rattle.controller.specs.declared.Consumer.{Consumer}
 use Rattle.controller.specs.declared.Step.{Step}
 use Rattle.controller.specs.declared.Stepped.{Stepped}

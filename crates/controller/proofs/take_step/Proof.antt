@@ -1,5 +1,5 @@
 -- `controller::take_step` meets its contract. Assumes nothing.
-use mathlib.Core.Path.{_≡_, ap, _∙_}
+use mathlib.Core.Path.{ap, _∙_}
 use Rattle.trb.specs.declared.Words.{Words}
 use Rattle.controller.specs.Rule.{stepAt, step}
 use borrow.Author.Needs.{needs}

@@ -2,7 +2,7 @@
 use mathlib.Core.Path.{sym, ap, _∙_, _≡_}
 use Rattle.event.specs.declared.Event.{Event}
 use Rattle.trb.specs.declared.Words.{Words}
-use Rattle.table.specs.declared.finished.Finished.{Finished}
+use Rattle.finished.specs.declared.Finished.{Finished}
 use Rattle.dock.specs.Reclaim.{codeOf, remainingOf}
 use Rattle.dock.specs.Worth.{worth}
 use Rattle.worth.specs.Values.{worthOf}

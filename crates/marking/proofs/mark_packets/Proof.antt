@@ -54,10 +54,10 @@ use denote.Triple.Table.{entered, cited}
 use denote.Triple.Walked.{says, Stays, stay-slice, stay-none, stay-none-slice, walkOf, goes-slice, goes-none, goes-none-slice, Walks, ends-at, walked, walk-meets}
 use denote.Exit.{yes}
 use denote.Signature.{Slot, plain}
-use Rattle.table.specs.Finished.{finishedAt}
-use Rattle.table.specs.declared.packets.Packet.{Packet}
-use Rattle.table.proofs.packets.Packet as P
-use Rattle.table.proofs.packets.Packet.Laws as P′
+use Rattle.finished.specs.Finished.{finishedAt}
+use Rattle.packets.specs.declared.Packet.{Packet}
+use Rattle.packets.proofs.Packet as P
+use Rattle.packets.proofs.Packet.Laws as P′
 use Rattle.marking.specs.Marking.{beginOf, Fine, turnOf, nowhere, standingAt, turnAt, turns, walked as whole-walk}
 use Rattle.marking.specs.declared.Block.{Block}
 use Rattle.marking.specs.declared.Standing.{Standing}

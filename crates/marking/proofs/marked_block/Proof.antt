@@ -41,18 +41,18 @@ use denote.Triple.Statement.{Contract, Triple}
 use denote.Triple.Call.{calls-at}
 use denote.Triple.Clauses.{ensured, lasts}
 use denote.Triple.Table.{entered, cited}
-use denote.Triple.Walked.{says, needs, Stays, stay-none, stay-none-slice, stay-dropped, walkOf, goes-none, goes-none-slice, goes-dropped, Walks, ends-at, walked, walk-meets}
+use denote.Triple.Walked.{says, Stays, stay-none, stay-none-slice, stay-dropped, walkOf, goes-none, goes-none-slice, goes-dropped, Walks, ends-at, walked, walk-meets}
 use denote.Exit.{yes}
 use denote.Signature.{Slot, plain}
 use denote.Signature.Array.{arrayOf}
 use Rattle.marking.specs.Marking.{walked as whole-walk}
 use Rattle.marking.specs.declared.Block.{Block}
 use Rattle.marking.specs.declared.Standing.{Standing}
-use Rattle.table.specs.declared.packets.Packet.{Packet}
+use Rattle.packets.specs.declared.Packet.{Packet}
 use Rattle.marking.proofs.Machine.{block, standing}
 use Rattle.marking.proofs.LentArray.{goes-out, comes-home}
-use Rattle.table.proofs.packets.Packet as P
-use Rattle.table.proofs.packets.Packet.Laws as P′
+use Rattle.packets.proofs.Packet as P
+use Rattle.packets.proofs.Packet.Laws as P′
 use Rattle.marking.proofs.Block as B
 use Rattle.marking.proofs.Block.Laws as B′
 use Rattle.marking.proofs.Standing as T

@@ -1,5 +1,5 @@
 -- `attend_one` is safe and ends. Assumes nothing.
-use mathlib.Core.Path.{_≡_, refl, _∙_}
+use mathlib.Core.Path.{_∙_}
 use borrow.Author.Needs.{needs}
 use Rattle.program.proofs.attend_one.Statement.{statement}
 use Rattle.program.proofs.attend_one.Tie as tie

@@ -1,5 +1,4 @@
 -- `more` is safe and ends. Assumes nothing.
-use mathlib.Core.Path.{_≡_, refl, _∙_}
 use Rattle.program.proofs.more.Statement.{statement}
 use Rattle.program.proofs.more.Tie as tie
 

@@ -1,5 +1,5 @@
 -- `with_ring` is safe and ends. Assumes nothing.
-use mathlib.Core.Path.{_≡_, refl, _∙_}
+use mathlib.Core.Path.{_∙_}
 use borrow.Author.Needs.{needs}
 use Rattle.program.proofs.with_ring.Statement.{statement}
 use Rattle.program.proofs.with_ring.Tie as tie

@@ -4,8 +4,8 @@ use mathlib.Core.Path.{sym, ap, _∙_}
 use borrow.Author.Needs.{needs}
 use denote.Ref.{now}
 use Rattle.dock.specs.Cancel.{notFlying}
-use Rattle.table.specs.Records.{inFlight}
-use Rattle.table.specs.declared.records.Record.{Record}
+use Rattle.records.specs.Records.{inFlight}
+use Rattle.records.specs.declared.Record.{Record}
 use Rattle.refusal.proofs.CallLaws.{found-within}
 use lib.Dec.{eqb}
 use Rattle.refusal.proofs.is_grounded.Statement.{statement}

@@ -3,7 +3,7 @@ use mathlib.Core.Path.{sym, _∙_}
 use borrow.Author.Tests.{eq-eqb, ne-eqb}
 use Rattle.dock.specs.Configure.{plainNo}
 use Rattle.dock.specs.Commands.{pointer}
-use Rattle.stopping.proofs.StandLaws.{plain-fits, place-address}
+use Rattle.checks.proofs.StandLaws.{plain-fits, place-address}
 use borrow.Author.Needs.{needs}
 use Rattle.stopping.proofs.enqueue_pointer.Statement.{statement}
 use Rattle.stopping.proofs.enqueue_pointer.Tie as tie

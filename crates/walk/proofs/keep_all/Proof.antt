@@ -5,7 +5,7 @@ use mathlib.Core.Path.{refl, ap, _∙_, _≡_}
 use native.Mathlib.Omega.{arith}
 use denote.Ref.{now}
 use lib.ListN.{length, getD}
-use Rattle.table.specs.declared.packets.Packet.{Packet}
+use Rattle.packets.specs.declared.Packet.{Packet}
 use Rattle.marking.specs.Marking.{nowhere}
 use Rattle.marking.specs.Words.{keepOne, keepBelow}
 use Rattle.walk.proofs.LoadLaws.{keep-none, keep-more}

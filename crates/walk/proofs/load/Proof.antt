@@ -5,7 +5,7 @@ use mathlib.Core.Path.{refl, ap, _∙_, _≡_}
 use native.Mathlib.Omega.{arith}
 use denote.Ref.{now}
 use lib.ListN.{set}
-use Rattle.table.specs.declared.packets.Packet.{Packet}
+use Rattle.packets.specs.declared.Packet.{Packet}
 use Rattle.walk.specs.Loaded.{loaded}
 use Rattle.walk.proofs.LoadLaws.{loaded-more}
 use Rattle.walk.proofs.load.Statement.{statement}

@@ -4,7 +4,7 @@ use mathlib.Core.Path.{ap, _∙_, _≡_}
 use native.Mathlib.Omega.{arith}
 use denote.Ref.{now}
 use Rattle.dock.specs.Reclaim.{total}
-use Rattle.table.specs.declared.packets.Packet.{Packet}
+use Rattle.packets.specs.declared.Packet.{Packet}
 use Rattle.walk.proofs.TotalLaws.{actual-small, total-none, total-more}
 use Rattle.walk.proofs.total_of.Statement.{statement}
 use Rattle.walk.proofs.total_of.Tie as tie

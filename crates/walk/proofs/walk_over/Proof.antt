@@ -4,7 +4,7 @@ use mathlib.Core.List.{List}
 use mathlib.Core.Path.{ap, _∙_}
 use denote.Ref.{now}
 use lib.ListN.{getD}
-use Rattle.table.specs.declared.packets.Packet.{Packet}
+use Rattle.packets.specs.declared.Packet.{Packet}
 use Rattle.marking.specs.Marking.{nowhere}
 use Rattle.marking.specs.Words.{sweptBy, keepBelow}
 use Rattle.walk.specs.Values.{sweptOf}

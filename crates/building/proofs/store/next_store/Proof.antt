@@ -4,7 +4,7 @@ use borrow.Author.Tests.{ne-eqb}
 use denote.Ref.{now}
 use lib.ListN.{length}
 use Rattle.dock.specs.Store.{storeNo, store}
-use Rattle.storing.specs.Steps.{storedWith, storedBy}
+use Rattle.storing.specs.Stored.{storedWith, storedBy}
 use Rattle.storing.proofs.StoreLaws.{ready}
 use borrow.Author.Needs.{needs}
 use Rattle.building.proofs.store.next_store.Statement.{statement}

@@ -1,8 +1,5 @@
 -- `submit_request` meets its contract: the refusals, what the start takes, and the stores. Assumes nothing.
-use Prim.Native.Nat.{ℕ}
-use mathlib.Core.List.{List}
-use mathlib.Core.Path.{_≡_, sym, ap, _∙_}
-use native.Mathlib.Omega.{arith}
+use mathlib.Core.Path.{_≡_, sym, _∙_}
 use denote.Ref.{now}
 use lib.ListN.{length}
 use Rattle.building.specs.Numbers.{submitNo}

@@ -3,9 +3,9 @@ use Prim.Native.Nat.{_+_, _<_, _≤_}
 use mathlib.Core.Path.{ap, _∙_, _≡_}
 use borrow.Author.Needs.{needs}
 use borrow.Author.Tests.{eq-eqb, ne-eqb}
-use Rattle.table.specs.Packets.{packetCount}
-use Rattle.table.specs.Records.{isoch}
-use Rattle.table.specs.declared.records.Record.{Record}
+use Rattle.packets.specs.Packets.{packetCount}
+use Rattle.records.specs.Records.{isoch}
+use Rattle.records.specs.declared.Record.{Record}
 use Rattle.refusal.specs.Misplaced.{misplaced}
 use Rattle.completion.specs.Parts.{reclaimAt}
 use Rattle.refusal.proofs.CallLaws.{well-placed}

@@ -1,5 +1,5 @@
 -- `is_call` meets its contract. Assumes nothing.
-use borrow.Author.Tests.{eq-eqb, ne-eqb, lt-ltb, le-ltb}
+use borrow.Author.Tests.{eq-eqb, ne-eqb}
 use Rattle.console.specs.Serve.{isCall}
 use Rattle.console.proofs.serve.is_call.Statement.{statement}
 use Rattle.console.proofs.serve.is_call.Tie as tie

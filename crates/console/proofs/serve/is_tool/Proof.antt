@@ -1,5 +1,5 @@
 -- `is_tool` meets its contract. Assumes nothing.
-use borrow.Author.Tests.{eq-eqb, ne-eqb, lt-ltb, le-ltb}
+use borrow.Author.Tests.{eq-eqb, ne-eqb}
 use Rattle.console.specs.Serve.{isTool}
 use Rattle.console.proofs.serve.is_tool.Statement.{statement}
 use Rattle.console.proofs.serve.is_tool.Tie as tie

@@ -1,7 +1,6 @@
 -- `serve_slot` meets its contract. Assumes nothing.
-use mathlib.Core.Path.{_≡_, sym, ap, _∙_}
-use denote.Ref.{now}
-use borrow.Author.Tests.{eq-eqb, ne-eqb, lt-ltb, le-ltb}
+use mathlib.Core.Path.{ap}
+use borrow.Author.Tests.{lt-ltb, le-ltb}
 use Rattle.calls.specs.declared.Next.the-variants.{On}
 use Rattle.lines.specs.Page.{Page}
 use Rattle.console.specs.Serve.{leaves, serveSlot}

@@ -1,7 +1,7 @@
 -- `serve_tools` meets its contract. Assumes nothing.
-use mathlib.Core.Path.{_≡_, sym, ap, _∙_}
+use mathlib.Core.Path.{ap}
 use denote.Ref.{now}
-use borrow.Author.Tests.{eq-eqb, ne-eqb, lt-ltb, le-ltb}
+use borrow.Author.Tests.{eq-eqb, ne-eqb}
 use Rattle.dock.specs.declared.Endpoint.{Endpoint}
 use Rattle.calls.specs.declared.Next.the-variants.{On}
 use Rattle.lines.specs.Page.{Page}

@@ -1,5 +1,5 @@
 -- `forge32` meets its contract. Assumes nothing.
-use borrow.Author.Tests.{eq-eqb, ne-eqb, lt-ltb, le-ltb}
+use borrow.Author.Tests.{lt-ltb, le-ltb}
 use Rattle.console.specs.Serve.{forged}
 use borrow.Author.Needs.{needs}
 use Rattle.console.proofs.tools.forge32.Statement.{statement}

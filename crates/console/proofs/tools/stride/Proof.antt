@@ -1,11 +1,9 @@
 -- `stride` meets its contract. Assumes nothing.
-use mathlib.Core.Path.{_≡_, sym, ap, _∙_}
-use denote.Ref.{now}
-use borrow.Author.Tests.{eq-eqb, ne-eqb, lt-ltb, le-ltb}
+use mathlib.Core.Path.{ap}
+use borrow.Author.Tests.{lt-ltb, le-ltb}
 use native.Mathlib.Omega.{arith}
 use mathlib.Core.Bool.{true}
 use Rattle.lines.specs.Page.{Page}
-use Rattle.console.specs.declared.tools.Strode.{Strode}
 use Rattle.console.specs.Walk.{stride}
 use borrow.Author.Needs.{needs}
 use Rattle.console.proofs.tools.stride.Statement.{statement}

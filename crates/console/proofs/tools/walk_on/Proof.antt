@@ -1,8 +1,6 @@
 -- `walk_on` meets its contract. Assumes nothing.
-use mathlib.Core.Path.{_≡_, sym, ap, _∙_}
-use denote.Ref.{now}
+use mathlib.Core.Path.{ap, _∙_}
 use Rattle.lines.specs.Page.{Page}
-use Rattle.console.specs.declared.tools.Walked.{Walked}
 use Rattle.console.specs.Walk.{standBy, walked}
 use Rattle.console.proofs.tools.walk_on.Statement.{statement}
 use Rattle.console.proofs.tools.walk_on.Tie as tie

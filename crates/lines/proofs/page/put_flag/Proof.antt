@@ -1,5 +1,5 @@
 -- `put_flag` meets its contract. Assumes nothing.
-use mathlib.Core.Path.{_≡_, refl, sym, ap, _∙_}
+use mathlib.Core.Path.{ap, _∙_}
 use Rattle.lines.specs.Page.{Page, put, putAll, flagField}
 use borrow.Author.Needs.{needs}
 use Rattle.lines.proofs.page.put_flag.Statement.{statement}

@@ -1,5 +1,5 @@
 -- `close` meets its contract. Assumes nothing.
-use mathlib.Core.Path.{_≡_, sym, ap, _∙_}
+use mathlib.Core.Path.{sym, _∙_}
 use denote.Ref.{now}
 use Rattle.lines.specs.Reader.{closeWord, closeNumber, close}
 use Rattle.lines.proofs.PickLaws.{pick-not}

@@ -1,5 +1,4 @@
 -- `close_word` meets its contract. Assumes nothing.
-use mathlib.Core.Path.{_≡_, sym, _∙_}
 use borrow.Author.Tests.{eq-eqb, ne-eqb}
 use Rattle.lines.specs.Reader.{closeWord}
 use borrow.Author.Needs.{needs}

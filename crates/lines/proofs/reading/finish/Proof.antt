@@ -1,5 +1,5 @@
 -- `finish` meets its contract. Assumes nothing.
-use mathlib.Core.Path.{_≡_, sym, ap, _∙_}
+use mathlib.Core.Path.{sym, _∙_}
 use Rattle.lines.specs.Reader.{finish}
 use borrow.Author.Needs.{needs}
 use Rattle.lines.proofs.reading.finish.Statement.{statement}

@@ -1,6 +1,5 @@
 -- `is_complete` meets its contract. Assumes nothing.
-use mathlib.Core.Path.{refl, sym, _∙_}
-use borrow.Author.Tests.{eq-eqb, ne-eqb, lt-ltb, le-ltb, le-leb, lt-leb}
+use borrow.Author.Tests.{eq-eqb, ne-eqb}
 use Rattle.lines.specs.Reader.{complete}
 use Rattle.lines.proofs.reading.is_complete.Statement.{statement}
 use Rattle.lines.proofs.reading.is_complete.Tie as tie

@@ -1,7 +1,6 @@
 -- `letter` meets its contract, by its three tests. Assumes nothing.
 use Prim.Native.Nat.{_≤_, _<_, _^_}
 use native.Mathlib.Omega.{arith}
-use mathlib.Core.Path.{_≡_}
 use Rattle.base.proofs.Decide.{Decides, by-leb, by-ltb, both, if-so, if-not}
 use Rattle.lines.specs.Reader.{grows, letter}
 use borrow.Author.Needs.{needs}

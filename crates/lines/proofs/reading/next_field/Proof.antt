@@ -1,5 +1,5 @@
 -- `next_field` meets its contract, by its three tests. Assumes nothing.
-use borrow.Author.Tests.{eq-eqb, ne-eqb, not-true, not-false}
+use borrow.Author.Tests.{eq-eqb, ne-eqb}
 use Rattle.lines.specs.Reader.{opened}
 use borrow.Author.Needs.{needs}
 use Rattle.lines.proofs.reading.next_field.Statement.{statement}

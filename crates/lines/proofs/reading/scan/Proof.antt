@@ -1,18 +1,14 @@
 use Rattle.lines.proofs.ScanLaws.{scan-ends, scan-goes}
 -- `scan` meets its contract. The loop's invariant: what is left to scan, from the line as it stands, is what was to be scanned. Assumes nothing.
-use Prim.Native.Nat.{ℕ, suc, _+_, _-_, _≤_, _<_}
+use Prim.Native.Nat.{ℕ, _+_, _-_}
 use mathlib.Core.Bool.{true}
 use mathlib.Core.List.{List}
 use mathlib.Core.Path.{_≡_, refl, sym, ap, _∙_}
-use native.Mathlib.Numerals.{add-one}
 use native.Mathlib.Omega.{arith}
 use denote.Ref.{now}
-use lib.ListN.{length, getD, drop, drop-of-length-le}
-use lib.Seq.{drop-cons}
+use lib.ListN.{length, drop, drop-of-length-le}
 use borrow.Author.Needs.{needs}
-use borrow.Author.Tests.{eq-eqb, ne-eqb}
 use Rattle.lines.specs.declared.reading.Reading.{Reading}
-use Rattle.lines.specs.declared.reading.Scanned.{Scanned}
 use Rattle.lines.specs.Reader.{feed, finish, scan}
 use Rattle.lines.proofs.reading.scan.Statement.{statement}
 use Rattle.lines.proofs.reading.scan.Tie as tie

@@ -1,6 +1,5 @@
 -- `base_of` meets its contract. Assumes nothing.
-use mathlib.Core.Path.{refl, sym, _∙_}
-use borrow.Author.Tests.{eq-eqb, ne-eqb, lt-ltb, le-ltb, le-leb, lt-leb}
+use mathlib.Core.Path.{sym, _∙_}
 use Rattle.lines.specs.Words.{baseOf}
 use borrow.Author.Needs.{needs}
 use Rattle.lines.proofs.words.base_of.Statement.{statement}

@@ -1,6 +1,6 @@
 -- `drive_form` meets its contract, word by word. Assumes nothing.
-use mathlib.Core.Path.{refl, sym, _∙_}
-use borrow.Author.Tests.{eq-eqb, ne-eqb, lt-ltb, le-ltb, le-leb, lt-leb}
+use mathlib.Core.Path.{sym, _∙_}
+use borrow.Author.Tests.{eq-eqb, ne-eqb}
 use Rattle.lines.specs.Words.{driveForm}
 use borrow.Author.Needs.{needs}
 use Rattle.lines.proofs.words.drive_form.Statement.{statement}

@@ -1,6 +1,5 @@
 -- `is_bare` meets its contract, word by word. Assumes nothing.
-use mathlib.Core.Path.{refl, sym, _∙_}
-use borrow.Author.Tests.{eq-eqb, ne-eqb, lt-ltb, le-ltb, le-leb, lt-leb}
+use borrow.Author.Tests.{eq-eqb, ne-eqb}
 use Rattle.lines.specs.Words.{isBare}
 use borrow.Author.Needs.{needs}
 use Rattle.lines.proofs.words.is_bare.Statement.{statement}

@@ -1,6 +1,5 @@
 -- `is_hex` meets its contract. Assumes nothing.
-use mathlib.Core.Path.{refl, sym, _∙_}
-use borrow.Author.Tests.{eq-eqb, ne-eqb, lt-ltb, le-ltb, le-leb, lt-leb}
+use borrow.Author.Tests.{eq-eqb, ne-eqb}
 use Rattle.lines.specs.Words.{isHex}
 use borrow.Author.Needs.{needs}
 use Rattle.lines.proofs.words.is_hex.Statement.{statement}

@@ -1,6 +1,6 @@
 -- `most_of` meets its contract. Assumes nothing.
-use mathlib.Core.Path.{refl, sym, _∙_}
-use borrow.Author.Tests.{eq-eqb, ne-eqb, lt-ltb, le-ltb, le-leb, lt-leb}
+use mathlib.Core.Path.{sym, _∙_}
+use borrow.Author.Tests.{eq-eqb, ne-eqb}
 use Rattle.lines.specs.Words.{mostOf}
 use borrow.Author.Needs.{needs}
 use Rattle.lines.proofs.words.most_of.Statement.{statement}

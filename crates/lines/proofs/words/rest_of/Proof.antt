@@ -1,6 +1,5 @@
 -- `rest_of` meets its contract. Assumes nothing.
-use mathlib.Core.Path.{refl, sym, _∙_}
-use borrow.Author.Tests.{eq-eqb, ne-eqb, lt-ltb, le-ltb, le-leb, lt-leb}
+use borrow.Author.Tests.{eq-eqb, ne-eqb}
 use Rattle.lines.specs.Words.{restOf}
 use Rattle.lines.proofs.words.rest_of.Statement.{statement}
 use Rattle.lines.proofs.words.rest_of.Tie as tie

@@ -1,6 +1,5 @@
 -- `table_form` meets its contract. Assumes nothing.
-use mathlib.Core.Path.{refl, sym, _∙_}
-use borrow.Author.Tests.{eq-eqb, ne-eqb, lt-ltb, le-ltb, le-leb, lt-leb}
+use mathlib.Core.Path.{sym, _∙_}
 use Rattle.lines.specs.Words.{tableForm}
 use borrow.Author.Needs.{needs}
 use Rattle.lines.proofs.words.table_form.Statement.{statement}

@@ -1,6 +1,5 @@
 -- `takes_count` meets its contract. Assumes nothing.
-use mathlib.Core.Path.{refl, sym, _∙_}
-use borrow.Author.Tests.{eq-eqb, ne-eqb, lt-ltb, le-ltb, le-leb, lt-leb}
+use borrow.Author.Tests.{eq-eqb, ne-eqb}
 use Rattle.lines.specs.Words.{takesCount}
 use borrow.Author.Needs.{needs}
 use Rattle.lines.proofs.words.takes_count.Statement.{statement}

@@ -3,7 +3,7 @@ use mathlib.Core.Path.{sym, ap, _∙_}
 use borrow.Author.Needs.{needs}
 use denote.Ref.{now}
 use Rattle.dock.specs.Reclaim.{stageBy}
-use Rattle.table.specs.declared.finished.Finished.{Finished}
+use Rattle.finished.specs.declared.Finished.{Finished}
 use Rattle.stages.specs.Values.{seenOf}
 use Rattle.stages.specs.Parts.{afterSetup}
 use Rattle.stages.proofs.StageLaws.{setup-ends, setup-passes}

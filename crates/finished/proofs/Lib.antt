@@ -1,0 +1,2 @@
+-- The laws of `finished`.
+pub mod FinishedLaws

@@ -1,0 +1,2 @@
+-- What the contracts of `finished` cite.
+pub mod Finished

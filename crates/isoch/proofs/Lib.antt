@@ -1,0 +1,2 @@
+-- The laws of the packets' stores.
+pub mod PacketLaws

@@ -1,0 +1,2 @@
+-- What the contracts of `isoch` cite.
+pub mod Packed

@@ -1,0 +1,82 @@
+// The limits of a dock as tests on numbers: what making and row 1 of "When the dock says no" read. Every function takes any input.
+ghost use mathlib.Core.Path.{_≡_};
+ghost use Prim.Native.Nat.{_*_, _<_};
+ghost use lib.Dec.{eqb};
+ghost use Rattle.dock.specs.Limits.{limitsHold, ringSize};
+ghost use Rattle.limits.specs.Places.{placeFits, setupFits};
+
+// "What a dock may hold": slots, base, slot id and dci.
+pub fn limits_hold(slots: usize, base: u64, slot: u8, dci: u8) -> bool
+    ensures { λ r. ⌜ r ≡ limitsHold slots base slot dci ⌝ }
+{
+    if slots < 3 {
+        return false;
+    }
+    if 4096 < slots {
+        return false;
+    }
+    if base % 4096 != 0 {
+        return false;
+    }
+    if u64::MAX - base < 16 * slots as u64 - 1 {
+        return false;
+    }
+    if dci < 1 {
+        return false;
+    }
+    if 31 < dci {
+        return false;
+    }
+    if slot < 1 {
+        return false;
+    }
+    true
+}
+
+// "Place above L-2 except L-1 just before the link's store": the place of the next store.
+pub fn stands(slots: usize, place: usize, busy: bool, stored: usize) -> bool
+    ensures { λ r. ⌜ r ≡ placeFits slots place busy stored ⌝ }
+{
+    if slots == 0 {
+        return false;
+    }
+    if place < slots - 1 {
+        return true;
+    }
+    if place != slots - 1 {
+        return false;
+    }
+    if !busy {
+        return false;
+    }
+    0 < stored
+}
+
+// The place of the setup that is to be stored again.
+pub fn setup_stands(slots: usize, busy: bool, place: usize) -> bool
+    ensures { λ r. ⌜ r ≡ setupFits slots busy place ⌝ }
+{
+    if !busy {
+        return true;
+    }
+    if slots == 0 {
+        return false;
+    }
+    if place < slots - 1 {
+        return true;
+    }
+    false
+}
+
+// A table of four words a slot has its size: the ring, the finished table.
+pub fn is_sized(words: usize, slots: usize) -> bool
+    ensures { λ r. ⌜ r ≡ eqb words (ringSize slots) ⌝ }
+{
+    if words % 4 != 0 {
+        return false;
+    }
+    if words / 4 != slots {
+        return false;
+    }
+    true
+}

@@ -1,0 +1,2 @@
+-- The laws of `making`.
+pub mod ZeroLaws

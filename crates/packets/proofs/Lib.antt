@@ -1,0 +1,2 @@
+-- The laws of `packets`.
+pub mod PacketLaws

@@ -1,0 +1,2 @@
+-- What the contracts of `packets` cite.
+pub mod Packets

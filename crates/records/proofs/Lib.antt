@@ -1,0 +1,2 @@
+-- The laws of the three tables.
+pub mod RecordLaws

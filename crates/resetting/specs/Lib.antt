@@ -1,0 +1,2 @@
+-- What the contracts of `resetting` cite.
+pub mod Steps

@@ -1,0 +1,2 @@
+-- The law of a retire, record by record.
+pub mod RetireLaws

@@ -1,0 +1,2 @@
+-- What the contracts of `retiring` cite.
+pub mod Steps

@@ -1,0 +1,2 @@
+-- What the contracts of `steps` cite.
+pub mod Steps

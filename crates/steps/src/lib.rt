@@ -1,0 +1,152 @@
+// What one store changes of the endpoint, and its answer: functions on values, for the stores one by one and for the whole submission.
+ghost use mathlib.Core.Path.{_≡_};
+ghost use Prim.Native.Nat.{_+_, _≤_, _<_, max};
+ghost use Rattle.packets.specs.Packets.{packetCount};
+ghost use Rattle.dock.specs.State.{idle, moved};
+ghost use Rattle.dock.specs.Stores.{nextFrame};
+ghost use Rattle.dock.specs.Store.{worked, frameOn, firstCycle};
+ghost use Rattle.steps.specs.Steps.{runWith, advancedBy, concludedBy};
+use checks::Next;
+use dock::Endpoint;
+use dock::Stored;
+use dock::StoredOne;
+use dock::Work;
+use ring::Position;
+use records::Record;
+
+// No submission under way.
+pub fn idle() -> Work
+    ensures { λ r. ⌜ r ≡ idle ⌝ }
+{
+    Work {
+        busy: false,
+        number: 0,
+        stored: 0,
+        address: 0,
+        place: 0,
+        cycle: false,
+    }
+}
+
+// "Interval at least 1 (0 is taken as 1)."
+pub fn at_least_one(interval: u8) -> u8
+    ensures { λ r. ⌜ r ≡ max 1 interval ⌝ }
+{
+    if interval == 0 {
+        return 1;
+    }
+    interval
+}
+
+// What a store changes of the endpoint.
+pub fn moved(e: Endpoint, p: Position, frame: u16, w: Work) -> Endpoint
+    ensures { λ r. ⌜ r ≡ moved e p frame w ⌝ }
+{
+    let mut next = e;
+    next.at = p;
+    next.periodic.frame = frame;
+    next.work = w;
+    next
+}
+
+pub fn worked(w: Work, stored: usize, address: u64) -> Work
+    ensures { λ r. ⌜ r ≡ worked w stored address ⌝ }
+{
+    Work {
+        busy: true,
+        number: w.number,
+        stored,
+        address,
+        place: w.place,
+        cycle: w.cycle,
+    }
+}
+
+// "The next frame number moves by the interval modulo 2,048 at each packet's store."
+fn next_frame(e: Endpoint) -> u16
+    ensures { λ r. ⌜ r ≡ nextFrame e ⌝ }
+{
+    let interval = at_least_one(e.periodic.interval);
+    ((e.periodic.frame as u32 + interval as u32) % 2048) as u16
+}
+
+fn frame_on(e: Endpoint, v: Record) -> u16
+    ensures { λ r. ⌜ r ≡ frameOn e v ⌝ }
+{
+    if v.kind == checks::ISOCH {
+        return next_frame(e);
+    }
+    e.periodic.frame
+}
+
+// The running address, which an ISO packet moves on by its length, modulo 2^64.
+fn run_on(e: Endpoint, v: Record, size: u32) -> u64
+    ensures { λ r. ⌜ r ≡ runWith e v size ⌝ }
+{
+    if v.kind != checks::ISOCH {
+        return e.work.address;
+    }
+    std::num::wrapping_add_u64(e.work.address, size as u64)
+}
+
+// "A control TD stores its setup with the opposite cycle, the rest as usual."
+pub fn first_cycle(e: Endpoint, v: Record) -> bool
+    ensures { λ r. ⌜ r ≡ firstCycle e v ⌝ }
+{
+    if v.kind != checks::CONTROL {
+        return e.at.cycle;
+    }
+    if e.work.stored != 0 {
+        return e.at.cycle;
+    }
+    !e.at.cycle
+}
+
+// The endpoint after a TRB's store.
+pub fn advanced(e: Endpoint, v: Record, size: u32) -> Endpoint
+    requires { ⌜ (e .at .place + 1 ≤ 4096) × (e .work .stored ≤ packetCount) ⌝ }
+    ensures { λ r. ⌜ r ≡ advancedBy e v size ⌝ }
+{
+    let p = Position {
+        place: e.at.place + 1,
+        cycle: e.at.cycle,
+    };
+    let frame = frame_on(e, v);
+    let address = run_on(e, v, size);
+    let w = e.work;
+    moved(e, p, frame, worked(w, e.work.stored + 1, address))
+}
+
+// After the last store nothing is under way.
+fn settled(e: Endpoint) -> Endpoint
+    ensures { λ r. ⌜ r ≡ moved e (e .at) (e .periodic .frame) idle ⌝ }
+{
+    let mut next = e;
+    next.work = idle();
+    next
+}
+
+// The answer of a store that changed a slot and left this endpoint.
+pub fn concluded(after: Endpoint, v: Record, slot: usize) -> StoredOne
+    requires { ⌜ 0 < after .shape .slots ⌝ }
+    ensures { λ r. ⌜ r ≡ concludedBy after v slot ⌝ }
+{
+    let more = StoredOne {
+        answer: Stored::Slot(slot),
+        endpoint: after,
+    };
+    let next = checks::next_of(after, v);
+    match next {
+        Next::Link => more,
+        Next::Trb => more,
+        Next::Setup => more,
+        Next::Nothing => StoredOne {
+            answer: Stored::Last {
+                slot,
+                id: v.id,
+                bell: after.who.dci as u32,
+            },
+            endpoint: settled(after),
+        },
+    }
+}

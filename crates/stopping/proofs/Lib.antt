@@ -1,3 +1,0 @@
--- The laws of `stopping`.
-pub mod RetireLaws
-pub mod StandLaws

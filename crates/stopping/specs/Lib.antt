@@ -1,2 +1,0 @@
--- What the contracts of `stopping` cite beside the definitions of the dock.
-pub mod Steps

@@ -1,0 +1,52 @@
+-- One store by its parts, with the size of its packet read already.
+use Prim.Native.Nat.{ℕ, _+_}
+use mathlib.Core.Bool.{false}
+use mathlib.Core.List.{List}
+use Rattle.ring.specs.Ring.{storeAt, around, linkTrb}
+use Rattle.finished.specs.Finished.{clearPlace}
+use Rattle.records.specs.Records.{recordAt}
+use Rattle.records.specs.declared.Record.{Record}
+use Rattle.dock.specs.declared.Endpoint.{Endpoint}
+use Rattle.dock.specs.declared.StoredOne.{StoredOne}
+use Rattle.dock.specs.Fit.{Next, nextOf}
+use Rattle.dock.specs.State.{moved}
+use Rattle.dock.specs.Stores.{setupTrb}
+use Rattle.dock.specs.Store.{worked, firstCycle, stepped, ringStored, finishedStored, settled, storedAnswer}
+use Rattle.trbs.specs.Trbs.{trbWith}
+use Rattle.steps.specs.Steps.{advancedBy, concludedBy}
+
+-- The link's store,
+unfoldable pub linkBy : Endpoint → Record → List ℕ → StoredOne × List ℕ
+linkBy e v ring = (
+  concludedBy (moved e (around (e .at)) (e .periodic .frame) (worked (e .work) (e .work .stored) (e .work .address))) v (e .at .place),
+  storeAt ring (e .at .place) (linkTrb (e .shape .base) false) (e .at .cycle),
+)
+
+-- a TRB's,
+unfoldable pub trbBy : Endpoint → Record → ℕ → List ℕ → List ℕ → StoredOne × List ℕ × List ℕ
+trbBy e v size ring finished = (
+  concludedBy (advancedBy e v size) v (e .at .place),
+  storeAt ring (e .at .place) (trbWith e v size (e .work .stored)) (firstCycle e v),
+  clearPlace finished (e .at .place),
+)
+
+-- and the setup's, again.
+unfoldable pub setupBy : Endpoint → Record → List ℕ → StoredOne × List ℕ
+setupBy e v ring = (
+  concludedBy (moved e (e .at) (e .periodic .frame) (worked (e .work) (e .work .stored + 1) (e .work .address))) v (e .work .place),
+  storeAt ring (e .work .place) (setupTrb v) (e .work .cycle),
+)
+
+-- What a store that is not refused answers and leaves, by what it is,
+unfoldable pub storedWith : Next → Endpoint → Record → List ℕ → List ℕ → List ℕ → StoredOne × List ℕ × List ℕ
+storedWith n e v ring finished packets = (
+  record { answer = storedAnswer n e (stepped n e v packets) v; endpoint = settled (stepped n e v packets) v },
+  ringStored n e v packets ring,
+  finishedStored n e finished,
+)
+
+-- and by the tables.
+unfoldable pub storedBy : Endpoint → List ℕ → List ℕ → List ℕ → List ℕ → StoredOne × List ℕ × List ℕ
+storedBy e ring finished records packets =
+    let v = recordAt records (e .work .number) in
+    storedWith (nextOf e v) e v ring finished packets

@@ -1,0 +1,32 @@
+use mathlib.Core.Bool.{not}
+use denote.Ref.{now}
+use Rattle.striding.proofs.PutLaws.{put-is}
+-- `put_deferred` meets its contract: the place cleared, the TRB stored, the link where it is due. Assumes nothing.
+use native.Mathlib.Omega.{arith}
+use mathlib.Core.Path.{ap}
+use mathlib.Core.List.{List}
+use Prim.Native.Nat.{ℕ}
+use Rattle.ring.specs.declared.Position.{Position}
+use borrow.Author.Needs.{needs}
+use Rattle.striding.proofs.put.put_deferred.Statement.{statement}
+use Rattle.striding.proofs.put.put_deferred.Tie as tie
+
+link-on-requires : tie.Need-link-on-requires
+link-on-requires c κs =
+    let place = ap (λ (x : Position × List ℕ). x .0 .place) (c .before .before .before .enque-transfer-deferred-cycle .ensures) in omega (arith, place)
+
+returns : tie.Need-returns
+returns c =
+    let a = c .before .before .before .before .before .before .before .before .before .before .before .before .before .before .args in
+    (put-is (a .shape) (a .p) (a .trb) (not (a .p .cycle)) (now (a .ring)) (now (a .finished)) (c .before .before .before .before .before .before .before .before .before .before .clear-finished .ensures) (c .before .before .before .before .before .before .enque-transfer-deferred-cycle .ensures) (c .before .before .link-on .ensures .0), c .before .before .link-on .ensures .1)
+
+pub put-deferred-spec : {M : Type 1} → statement M
+put-deferred-spec =
+    tie.close
+    (tie.spec
+    (λ c κs. search needs)
+    (λ c κs. search needs)
+    link-on-requires
+    (λ c. search needs)
+    (λ c. search needs)
+    returns)

@@ -1,0 +1,58 @@
+-- A submission TRB by TRB: a TRB's store and, where the place reaches L-1, the link's behind it. `dock` has it store by store; that both come to the
+-- same is `strides-end` in proofs/.
+use Prim.Native.Nat.{ℕ, zero, suc, _+_}
+use mathlib.Core.Bool.{Bool, false}
+use mathlib.Core.List.{List}
+use lib.Dec.{eqb}
+use Rattle.base.specs.First.{pick}
+use Rattle.trb.specs.declared.Trb.{Trb}
+use Rattle.ring.specs.Ring.{storeAt, onward, around, linkTrb}
+use Rattle.ring.specs.declared.Position.{Position}
+use Rattle.finished.specs.Finished.{clearPlace}
+use Rattle.records.specs.Records.{control}
+use Rattle.records.specs.declared.Record.{Record}
+use Rattle.dock.specs.declared.Endpoint.{Endpoint}
+use Rattle.dock.specs.declared.Shape.{Shape}
+use Rattle.dock.specs.declared.StoredAll.{StoredAll}
+use Rattle.dock.specs.declared.Submitted.the-variants.{Done}
+use Rattle.dock.specs.State.{idle, moved}
+use Rattle.dock.specs.Store.{worked, runOn, frameOn, firstCycle}
+use Rattle.dock.specs.Stores.{setupTrb, trbOf}
+
+-- "Reaching L-1 it adds a second store, the link at L-1 with the old cycle, then place 0 and the cycle toggled": the position,
+abbrev pub linked : ℕ → Position → Position
+linked slots p = pick (eqb (p .place + 1) slots) (around p) p
+
+-- and the ring.
+abbrev pub linkedRing : Shape → Position → List ℕ → List ℕ
+linkedRing shape p ring = pick (eqb (p .place + 1) (shape .slots)) (storeAt ring (p .place) (linkTrb (shape .base) false) (p .cycle)) ring
+
+unfoldable pub linkOn : Shape → Position → List ℕ → Position × List ℕ
+linkOn shape p ring = (linked (shape .slots) p, linkedRing shape p ring)
+
+-- A TRB with a cycle at the place, its place in the finished table cleared, and the link where it is due.
+unfoldable pub putTrb : Shape → Position → Trb → Bool → List ℕ → List ℕ → Position × List ℕ × List ℕ
+putTrb shape p trb cycle ring finished =
+    (linked (shape .slots) (onward p), linkedRing shape (onward p) (storeAt ring (p .place) trb cycle), clearPlace finished (p .place))
+
+-- The next TRB of the submission under way, so.
+abbrev pub nextPut : Endpoint → Record → List ℕ → List ℕ → List ℕ → Position × List ℕ × List ℕ
+nextPut e v packets ring finished = putTrb (e .shape) (e .at) (trbOf e v packets (e .work .stored)) (firstCycle e v) ring finished
+
+-- The endpoint behind it, which stands at p.
+abbrev pub strode : Endpoint → Record → List ℕ → Position → Endpoint
+strode e v packets p = moved e p (frameOn e v) (worked (e .work) (e .work .stored + 1) (runOn e v packets))
+
+-- So many TRBs.
+unfoldable pub strides : ℕ → Endpoint → Record → List ℕ → List ℕ → List ℕ → Endpoint × List ℕ × List ℕ
+strides zero e v packets ring finished = (e, ring, finished)
+strides (suc n) e v packets ring finished =
+    let s = nextPut e v packets ring finished in strides n (strode e v packets (s .0)) v packets (s .1) (s .2)
+
+-- The end of a submission whose TRBs are stored: for control the setup again, with the right cycle; then nothing is under way.
+unfoldable pub closed : Record → Endpoint × List ℕ × List ℕ → StoredAll × List ℕ × List ℕ
+closed v s = (
+  record { answer = Done (v .id) (s .0 .who .dci); endpoint = moved (s .0) (s .0 .at) (s .0 .periodic .frame) idle },
+  pick (eqb (v .kind) control) (storeAt (s .1) (s .0 .work .place) (setupTrb v) (s .0 .work .cycle)) (s .1),
+  s .2,
+)

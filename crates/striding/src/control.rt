@@ -1,0 +1,45 @@
+// A control TD: setup, data where there is any, status, and the setup again.
+ghost use mathlib.Core.Path.{_≡_};
+ghost use Prim.Native.Nat.{_+_, _*_, _≤_, _<_};
+ghost use lib.ListN.{length};
+ghost use Rattle.striding.specs.Controls.{stagesPut, controlPut};
+use crate::put;
+use dock::Shape;
+use ring::Position;
+use records::Record;
+
+// Data where there is any, then status.
+fn put_stages(
+    ring: &mut [u32],
+    finished: &mut [u32],
+    shape: Shape,
+    p: Position,
+    v: Record,
+) -> Position
+    requires { ⌜ (4 * shape .slots ≤ length (now ring)) × (4 * shape .slots ≤ length (now finished)) × (2 ≤ shape .slots) × (p .place + 1 < shape .slots) ⌝ }
+    ensures { λ r. ⌜ (r, now (ring .exit), now (finished .exit)) ≡ stagesPut shape v (p, now (ring .entry), now (finished .entry)) ⌝ }
+{
+    if v.length == 0 {
+        return put::put(ring, finished, shape, p, trbs::status_trb(v));
+    }
+    let q = put::put(ring, finished, shape, p, trbs::data_trb(v));
+    put::put(ring, finished, shape, q, trbs::status_trb(v))
+}
+
+// "A control TD stores its setup with the opposite cycle, the rest as usual, then the setup again with the right one."
+pub fn put_control(
+    ring: &mut [u32],
+    finished: &mut [u32],
+    shape: Shape,
+    p: Position,
+    v: Record,
+) -> Position
+    requires { ⌜ (4 * shape .slots ≤ length (now ring)) × (4 * shape .slots ≤ length (now finished)) × (2 ≤ shape .slots) × (p .place + 1 < shape .slots) ⌝ }
+    ensures { λ r. ⌜ (r, now (ring .exit), now (finished .exit)) ≡ controlPut shape p v (now (ring .entry)) (now (finished .entry)) ⌝ }
+{
+    let setup = trbs::setup_trb(v);
+    let q = put::put_deferred(ring, finished, shape, p, setup);
+    let end = put_stages(ring, finished, shape, q, v);
+    ring::set_transfer_trb(ring, p.place, setup, p.cycle);
+    end
+}

@@ -1,0 +1,2 @@
+-- What the contracts of `trbs` cite.
+pub mod Trbs
