@@ -1,11 +1,11 @@
 // The lines that answers are written as, each put on a page.
 ghost use mathlib.Core.Path.{_≡_};
 ghost use Prim.Native.Nat.{_<_, min};
-ghost use Rattle.lines.specs.Page.{putAll};
+ghost use Rattle.page.specs.Page.{putAll};
 ghost use Rattle.packets.specs.Packets.{packetCount};
-ghost use Rattle.answers.specs.Text.{wordLine, numberLine, noLine, failedLine, wordsText, slotLine, bellLine, outcomeLine, cutLine, storedLines};
-ghost use Rattle.answers.specs.Text.{submittedLine, takenLine, countedAt, lengthsText, doneLine, reclaimedLine, commandLine, resettingLines};
-ghost use Rattle.answers.specs.Text.{commandedLine, pointedLine, stateRest, stateLine, standsLine, badText};
+ghost use Rattle.phrases.specs.Text.{outcomeLine, cutLine, storedLines};
+ghost use Rattle.phrases.specs.Text.{submittedLine, takenLine, countedAt, lengthsText, doneLine, reclaimedLine, commandLine, resettingLines};
+ghost use Rattle.phrases.specs.Text.{commandedLine, pointedLine, stateRest, stateLine, standsLine};
 use controller::Consumer;
 use dock::Command;
 use dock::Completion;
@@ -17,80 +17,15 @@ use dock::Resetting;
 use dock::Stored;
 use dock::Submitted;
 use dock::Taken;
-use lines::page;
 use trb::Words;
-
-// A word by itself,
-fn put_name(out: &mut [u8], at: usize, name: &[u8]) -> usize
-    ensures { λ r. ⌜ (r, now (out .exit)) ≡ putAll (at, now (out .entry)) (wordLine (now (name .entry))) ⌝ }
-{
-    let a = page::put_text(out, at, name);
-    page::put_end(out, a)
-}
-
-// and with one number.
-pub fn put_number(out: &mut [u8], at: usize, name: &[u8], n: u64) -> usize
-    ensures { λ r. ⌜ (r, now (out .exit)) ≡ putAll (at, now (out .entry)) (numberLine (now (name .entry)) n) ⌝ }
-{
-    let a = page::put_text(out, at, name);
-    let b = page::put_decimal(out, a, n);
-    page::put_end(out, b)
-}
-
-// A refusal: `no` and its number.
-pub fn put_no(out: &mut [u8], at: usize, number: u32) -> usize
-    ensures { λ r. ⌜ (r, now (out .exit)) ≡ putAll (at, now (out .entry)) (noLine number) ⌝ }
-{
-    put_number(out, at, b"no", number as u64)
-}
-
-// `no`, 8 and the code.
-fn put_failed(out: &mut [u8], at: usize, code: u32) -> usize
-    ensures { λ r. ⌜ (r, now (out .exit)) ≡ putAll (at, now (out .entry)) (failedLine code) ⌝ }
-{
-    let a = page::put_text(out, at, b"no");
-    let b = page::put_decimal(out, a, 8);
-    let c = page::put_decimal(out, b, code as u64);
-    page::put_end(out, c)
-}
-
-// Four words, behind what stands there.
-fn put_words(out: &mut [u8], at: usize, w: Words) -> usize
-    ensures { λ r. ⌜ (r, now (out .exit)) ≡ putAll (at, now (out .entry)) (wordsText w) ⌝ }
-{
-    let a = page::put_word(out, at, w.w0);
-    let b = page::put_word(out, a, w.w1);
-    let c = page::put_word(out, b, w.w2);
-    let d = page::put_word(out, c, w.w3);
-    page::put_end(out, d)
-}
-
-// A slot and its words, under a name.
-pub fn put_slot(out: &mut [u8], at: usize, name: &[u8], slot: usize, w: Words) -> usize
-    ensures { λ r. ⌜ (r, now (out .exit)) ≡ putAll (at, now (out .entry)) (slotLine (now (name .entry)) slot w) ⌝ }
-{
-    let a = page::put_text(out, at, name);
-    let b = page::put_decimal(out, a, slot as u64);
-    put_words(out, b, w)
-}
-
-// `bell`: the doorbell word, the id.
-fn put_bell(out: &mut [u8], at: usize, bell: u32, id: u64) -> usize
-    ensures { λ r. ⌜ (r, now (out .exit)) ≡ putAll (at, now (out .entry)) (bellLine bell id) ⌝ }
-{
-    let a = page::put_text(out, at, b"bell");
-    let b = page::put_hex(out, a, bell as u64);
-    let c = page::put_decimal(out, b, id);
-    page::put_end(out, c)
-}
 
 // A word by itself where a call is done.
 pub fn put_outcome(out: &mut [u8], at: usize, name: &[u8], answer: Outcome) -> usize
     ensures { λ r. ⌜ (r, now (out .exit)) ≡ putAll (at, now (out .entry)) (outcomeLine (now (name .entry)) answer) ⌝ }
 {
     match answer {
-        Outcome::Done => put_name(out, at, name),
-        Outcome::Refused(number) => put_no(out, at, number),
+        Outcome::Done => phrases::put_name(out, at, name),
+        Outcome::Refused(number) => phrases::put_no(out, at, number),
     }
 }
 
@@ -99,8 +34,8 @@ pub fn put_cut(out: &mut [u8], at: usize, id: u64, answer: Outcome) -> usize
     ensures { λ r. ⌜ (r, now (out .exit)) ≡ putAll (at, now (out .entry)) (cutLine id answer) ⌝ }
 {
     match answer {
-        Outcome::Done => put_number(out, at, b"cut", id),
-        Outcome::Refused(number) => put_no(out, at, number),
+        Outcome::Done => phrases::put_number(out, at, b"cut", id),
+        Outcome::Refused(number) => phrases::put_no(out, at, number),
     }
 }
 
@@ -111,14 +46,14 @@ pub fn put_stored(out: &mut [u8], at: usize, ring: &[u32], answer: Stored) -> us
     match answer {
         Stored::Slot(slot) => {
             let w = controller::slot_words(ring, slot);
-            put_slot(out, at, b"store", slot, w)
+            phrases::put_slot(out, at, b"store", slot, w)
         }
         Stored::Last { slot, id, bell } => {
             let w = controller::slot_words(ring, slot);
-            let a = put_slot(out, at, b"store", slot, w);
-            put_bell(out, a, bell, id)
+            let a = phrases::put_slot(out, at, b"store", slot, w);
+            phrases::put_bell(out, a, bell, id)
         }
-        Stored::Refused(number) => put_no(out, at, number),
+        Stored::Refused(number) => phrases::put_no(out, at, number),
     }
 }
 
@@ -126,8 +61,8 @@ pub fn put_submitted(out: &mut [u8], at: usize, answer: Submitted) -> usize
     ensures { λ r. ⌜ (r, now (out .exit)) ≡ putAll (at, now (out .entry)) (submittedLine answer) ⌝ }
 {
     match answer {
-        Submitted::Done { id, bell } => put_bell(out, at, bell, id),
-        Submitted::Refused(number) => put_no(out, at, number),
+        Submitted::Done { id, bell } => phrases::put_bell(out, at, bell, id),
+        Submitted::Refused(number) => phrases::put_no(out, at, number),
     }
 }
 
@@ -136,8 +71,8 @@ pub fn put_taken(out: &mut [u8], at: usize, answer: Taken) -> usize
     ensures { λ r. ⌜ (r, now (out .exit)) ≡ putAll (at, now (out .entry)) (takenLine answer) ⌝ }
 {
     match answer {
-        Taken::Place(slot) => put_number(out, at, b"taken", slot as u64),
-        Taken::Refused(number) => put_no(out, at, number),
+        Taken::Place(slot) => phrases::put_number(out, at, b"taken", slot as u64),
+        Taken::Refused(number) => phrases::put_no(out, at, number),
     }
 }
 
@@ -199,11 +134,11 @@ pub fn put_reclaimed(out: &mut [u8], at: usize, packets: &[u64], answer: Reclaim
 {
     match answer {
         Reclaimed::Done(c) => put_done(out, at, packets, c),
-        Reclaimed::Cancelled => put_no(out, at, 7),
-        Reclaimed::Failed(code) => put_failed(out, at, code),
-        Reclaimed::Mismatch => put_no(out, at, 9),
-        Reclaimed::Nothing => put_no(out, at, 10),
-        Reclaimed::Refused(number) => put_no(out, at, number),
+        Reclaimed::Cancelled => phrases::put_no(out, at, 7),
+        Reclaimed::Failed(code) => phrases::put_failed(out, at, code),
+        Reclaimed::Mismatch => phrases::put_no(out, at, 9),
+        Reclaimed::Nothing => phrases::put_no(out, at, 10),
+        Reclaimed::Refused(number) => phrases::put_no(out, at, number),
     }
 }
 
@@ -212,19 +147,19 @@ fn put_command(out: &mut [u8], at: usize, w: Words) -> usize
     ensures { λ r. ⌜ (r, now (out .exit)) ≡ putAll (at, now (out .entry)) (commandLine w) ⌝ }
 {
     let a = page::put_text(out, at, b"command");
-    put_words(out, a, w)
+    phrases::put_words(out, a, w)
 }
 
 pub fn put_resetting(out: &mut [u8], at: usize, answer: Resetting) -> usize
     ensures { λ r. ⌜ (r, now (out .exit)) ≡ putAll (at, now (out .entry)) (resettingLines answer) ⌝ }
 {
     match answer {
-        Resetting::Clear => put_name(out, at, b"clear"),
+        Resetting::Clear => phrases::put_name(out, at, b"clear"),
         Resetting::Commands { reset, dequeue } => {
             let a = put_command(out, at, reset);
             put_command(out, a, dequeue)
         }
-        Resetting::Refused(number) => put_no(out, at, number),
+        Resetting::Refused(number) => phrases::put_no(out, at, number),
     }
 }
 
@@ -233,7 +168,7 @@ pub fn put_commanded(out: &mut [u8], at: usize, answer: Command) -> usize
 {
     match answer {
         Command::Words(w) => put_command(out, at, w),
-        Command::Refused(number) => put_no(out, at, number),
+        Command::Refused(number) => phrases::put_no(out, at, number),
     }
 }
 
@@ -248,7 +183,7 @@ pub fn put_pointed(out: &mut [u8], at: usize, answer: Pointed) -> usize
             let c = page::put_flag(out, b, p.cycle);
             page::put_end(out, c)
         }
-        Pointed::Refused(number) => put_no(out, at, number),
+        Pointed::Refused(number) => phrases::put_no(out, at, number),
     }
 }
 
@@ -282,11 +217,4 @@ pub fn put_stands(out: &mut [u8], at: usize, c: Consumer) -> usize
     let b = page::put_decimal(out, a, c.slot as u64);
     let d = page::put_flag(out, b, c.state);
     page::put_end(out, d)
-}
-
-// `bad` and the line's number.
-pub fn put_bad(out: &mut [u8], at: usize, line: u64) -> usize
-    ensures { λ r. ⌜ (r, now (out .exit)) ≡ putAll (at, now (out .entry)) (numberLine badText line) ⌝ }
-{
-    put_number(out, at, b"bad", line)
 }

@@ -6,8 +6,8 @@ use mathlib.Core.Path.{_≡_, refl, sym, ap, _∙_}
 use native.Mathlib.Omega.{arith}
 use Rattle.base.specs.First.{pick}
 use Rattle.dock.specs.declared.Endpoint.{Endpoint}
-use Rattle.lines.specs.Page.{Page}
-use Rattle.calls.specs.declared.Turn.{Turn}
+use Rattle.page.specs.Page.{Page}
+use Rattle.values.specs.declared.Turn.{Turn}
 use Rattle.calls.specs.declared.StoreTurn.{StoreTurn}
 use Rattle.calls.specs.Calls.{turn, storedOne, storesBy, stores}
 

@@ -25,12 +25,12 @@ use Rattle.dock.specs.Cancel.{cancel}
 use Rattle.dock.specs.Retire.{retire}
 use Rattle.dock.specs.Reset.{beginReset, endReset}
 use Rattle.dock.specs.Commands.{stop, resume, pointer}
-use Rattle.lines.specs.Page.{Page, putAll}
-use Rattle.answers.specs.Text.{noLine, outcomeLine, cutLine, storedLines, submittedLine, takenLine, reclaimedLine, resettingLines, commandedLine, pointedLine}
-use Rattle.calls.specs.declared.Turn.{Turn}
+use Rattle.page.specs.Page.{Page, putAll}
+use Rattle.phrases.specs.Text.{noLine, outcomeLine, cutLine, storedLines, submittedLine, takenLine, reclaimedLine, resettingLines, commandedLine, pointedLine}
+use Rattle.values.specs.declared.Turn.{Turn}
 use Rattle.calls.specs.declared.StoreTurn.{StoreTurn}
-use Rattle.calls.specs.declared.Next.the-variants.{On}
-use Rattle.calls.specs.Values.{value, byte, half, eventOf}
+use Rattle.values.specs.declared.Next.the-variants.{On}
+use Rattle.values.specs.Values.{value, byte, half, eventOf}
 
 -- set, begun, retired, ended.
 abbrev pub setText : List ℕ

@@ -1,3 +1,2 @@
 -- What the calls that lines make do and write.
-pub mod Values
 pub mod Calls

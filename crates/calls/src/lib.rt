@@ -1,160 +1,22 @@
 // The calls that a line makes, each with what it writes.
 ghost use mathlib.Core.Path.{_≡_};
-ghost use Prim.Native.Nat.{_%_};
-ghost use lib.ListN.{length};
 ghost use Rattle.dock.specs.Make.{make};
-ghost use Rattle.calls.specs.Values.{value, byte, half, word, requestOf, lengthsOf, eventOf, openingOf};
+ghost use Rattle.values.specs.Values.{value, byte, half};
 ghost use Rattle.calls.specs.Calls.{configured, ended, stopped, resumed, pointed, reset, handed, cancelled, retired, reclaimed, begun};
 ghost use Rattle.calls.specs.Calls.{goesOn, storedOne, stores, asked, submitted};
 use dock::Changed;
+use values::Next;
+use values::Turn;
 use dock::Endpoint;
 use dock::Outcome;
 use dock::Request;
 use dock::Stored;
-use lines::reading::Reading;
-use lines::words;
-use trb::Words;
-
-// How the session goes on: with the next line; with no ring; or not at all, since the line was bad.
-pub enum Next {
-    On,
-    New,
-    Bad,
-}
-
-// What a line leaves: the endpoint, how many bytes stand on the page, and how the session goes on.
-pub struct Turn {
-    pub e: Endpoint,
-    pub at: usize,
-    pub next: Next,
-}
 
 // What a store leaves, and whether more are to come.
 pub struct StoreTurn {
     pub e: Endpoint,
     pub at: usize,
     pub more: bool,
-}
-
-// What a line is where no ring is made.
-pub enum Opening {
-    Bad,
-    TooLarge,
-    Ring,
-}
-
-// Value i of a line; what is not there is 0.
-pub fn value(values: &[u64], i: usize) -> u64
-    ensures { λ r. ⌜ r ≡ value (now (values .entry)) i ⌝ }
-{
-    if i < values.len() {
-        return values[i];
-    }
-    0
-}
-
-// A value as a smaller number: the line's reader has seen to it that it fits.
-pub fn byte(v: u64) -> u8
-    ensures { λ r. ⌜ r ≡ byte v ⌝ }
-{
-    (v % 0x100) as u8
-}
-
-pub fn half(v: u64) -> u16
-    ensures { λ r. ⌜ r ≡ half v ⌝ }
-{
-    (v % 0x1_0000) as u16
-}
-
-pub fn word(v: u64) -> u32
-    ensures { λ r. ⌜ r ≡ word v ⌝ }
-{
-    (v % 0x1_0000_0000) as u32
-}
-
-// The request that a word and its values ask for.
-pub fn request_of(name: u64, values: &[u64]) -> Request
-    ensures { λ r. ⌜ r ≡ requestOf name (now (values .entry)) ⌝ }
-{
-    let a = value(values, 0);
-    let b = value(values, 1);
-    let c = value(values, 2);
-    if name == words::CONTROL {
-        return Request::Control {
-            kind: byte(a),
-            request: byte(b),
-            value: half(c),
-            index: half(value(values, 3)),
-            address: value(values, 4),
-            length: value(values, 5),
-        };
-    }
-    if name == words::ISO {
-        return Request::Isoch {
-            incoming: a == 1,
-            address: b,
-            length: c,
-        };
-    }
-    if name == words::INTERRUPT {
-        return Request::Interrupt {
-            incoming: a == 1,
-            address: b,
-            length: c,
-        };
-    }
-    Request::Bulk {
-        incoming: a == 1,
-        address: b,
-        length: c,
-    }
-}
-
-// The lengths behind an `iso` line's first three values.
-pub fn lengths_of(name: u64, values: &[u64], count: usize) -> &[u64]
-    ensures { λ r. ⌜ now r ≡ lengthsOf name (now (values .entry)) count ⌝ }
-{
-    if name != words::ISO {
-        return &values[..0];
-    }
-    if count < 3 {
-        return &values[..0];
-    }
-    if values.len() < count {
-        return &values[..0];
-    }
-    &values[3..count]
-}
-
-// The four words of an event.
-fn event_of(values: &[u64]) -> Words
-    ensures { λ r. ⌜ r ≡ eventOf (now (values .entry)) ⌝ }
-{
-    Words {
-        w0: word(value(values, 0)),
-        w1: word(value(values, 1)),
-        w2: word(value(values, 2)),
-        w3: word(value(values, 3)),
-    }
-}
-
-// A line with no ring made: it makes one, of at most so many slots, or it is bad.
-pub fn opening_of(r: Reading, values: &[u64], most: u64) -> Opening
-    ensures { λ o. ⌜ o ≡ openingOf r (now (values .entry)) most ⌝ }
-{
-    if !r.good {
-        return Opening::Bad;
-    }
-    if r.before != 0 {
-        return Opening::Bad;
-    }
-    if r.word != words::RING {
-        return Opening::Bad;
-    }
-    if most < value(values, 0) {
-        return Opening::TooLarge;
-    }
-    Opening::Ring
 }
 
 // `ring`: a ring is made.
@@ -167,12 +29,12 @@ pub fn made(
 ) -> Changed
     ensures { λ r. ⌜ (r, now (ring .exit), now (finished .exit), now (records .exit), now (packets .exit)) ≡ make (now (ring .entry)) (now (finished .entry)) (now (records .entry)) (now (packets .entry)) (value (now (values .entry)) 0) (value (now (values .entry)) 1) (value (now (values .entry)) 2) (byte (value (now (values .entry)) 3)) (byte (value (now (values .entry)) 4)) ⌝ }
 {
-    let slots = value(values, 0);
-    let base = value(values, 1);
-    let mask = value(values, 2);
-    let slot = byte(value(values, 3));
-    let dci = byte(value(values, 4));
-    making::make(
+    let slots = values::value(values, 0);
+    let base = values::value(values, 1);
+    let mask = values::value(values, 2);
+    let slot = values::byte(values::value(values, 3));
+    let dci = values::byte(values::value(values, 4));
+    making::make::make(
         ring,
         finished,
         records,
@@ -188,10 +50,10 @@ pub fn made(
 pub fn configured(e: Endpoint, values: &[u64], out: &mut [u8], at: usize) -> Turn
     ensures { λ r. ⌜ (r, now (out .exit)) ≡ configured e (now (values .entry)) (at, now (out .entry)) ⌝ }
 {
-    let packet = half(value(values, 0));
-    let burst = byte(value(values, 1));
-    let interval = byte(value(values, 2));
-    let c = building::configure::configure_periodic(e, packet, burst, interval);
+    let packet = values::half(values::value(values, 0));
+    let burst = values::byte(values::value(values, 1));
+    let interval = values::byte(values::value(values, 2));
+    let c = making::configure::configure_periodic(e, packet, burst, interval);
     let answer = c.answer;
     let end = answers::put_outcome(out, at, b"set", answer);
     let next = c.endpoint;
@@ -319,7 +181,7 @@ pub fn asked(
     let next = s.endpoint;
     match answer {
         Outcome::Refused(number) => {
-            let end = answers::put_no(out, at, number);
+            let end = phrases::put_no(out, at, number);
             Turn {
                 e: next,
                 at: end,
@@ -358,7 +220,7 @@ pub fn submitted(
 pub fn handed(e: Endpoint, finished: &mut [u32], values: &[u64], out: &mut [u8], at: usize) -> Turn
     ensures { λ r. ⌜ (r, now (finished .exit), now (out .exit)) ≡ handed e (now (finished .entry)) (now (values .entry)) (at, now (out .entry)) ⌝ }
 {
-    let event = event_of(values);
+    let event = values::event_of(values);
     let answer = completion::hand_over(e, finished, event);
     let end = answers::put_taken(out, at, answer);
     Turn {
@@ -379,7 +241,7 @@ pub fn reclaimed(
 ) -> Turn
     ensures { λ r. ⌜ (r, now (records .exit), now (packets .exit), now (out .exit)) ≡ reclaimed e (now (finished .entry)) (now (records .entry)) (now (packets .entry)) id (at, now (out .entry)) ⌝ }
 {
-    let r = completion::reclaim_request(e, finished, records, packets, id);
+    let r = reclaiming::reclaim_request(e, finished, records, packets, id);
     let answer = r.answer;
     let end = answers::put_reclaimed(out, at, packets, answer);
     let next = r.endpoint;

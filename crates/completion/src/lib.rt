@@ -12,16 +12,11 @@ ghost use Rattle.ids.specs.Free.{recordCount, recordWords};
 ghost use Rattle.ids.specs.Lookup.{findIn};
 ghost use Rattle.dock.specs.Cancel.{marked, cancel};
 ghost use Rattle.dock.specs.HandOver.{handOver};
-ghost use Rattle.dock.specs.Reclaim.{reclaim};
 use dock::Endpoint;
 use dock::Outcome;
-use dock::Reclaimed;
-use dock::ReclaimedOne;
 use dock::Taken;
 use ids::Lookup;
 use records::CANCELLED;
-
-mod reclaim;
 
 // An event is handed over: its place is filled.
 pub fn hand_over(e: Endpoint, finished: &mut [u32], event: trb::Words) -> Taken
@@ -34,30 +29,6 @@ pub fn hand_over(e: Endpoint, finished: &mut [u32], event: trb::Words) -> Taken
     let slot = refusal::place_for(e, event);
     finished::set_finished(finished, slot, event);
     Taken::Place(slot)
-}
-
-// A request is reclaimed by its id.
-pub fn reclaim_request(
-    e: Endpoint,
-    finished: &[u32],
-    records: &mut [u64],
-    packets: &mut [u64],
-    id: u64,
-) -> ReclaimedOne
-    ensures { λ r. ⌜ (r, now (records .exit), now (packets .exit)) ≡ reclaim e (now (finished .entry)) (now (records .entry)) (now (packets .entry)) id ⌝ }
-{
-    let no = refusal::reclaim_no(e, finished.len(), records, packets.len(), id);
-    if no != 0 {
-        return ReclaimedOne {
-            answer: Reclaimed::Refused(no),
-            endpoint: e,
-        };
-    }
-    let found = ids::find_id(records, e.account.occupancy, id);
-    match found {
-        Lookup::Nothing => completing::unfinished(e),
-        Lookup::At(r) => reclaim::reclaim_at(e, finished, records, packets, r),
-    }
 }
 
 // The record with the id is marked as cancelled.

@@ -1,3 +1,2 @@
--- What a line does.
-pub mod Walk
+-- What every line does.
 pub mod Serve

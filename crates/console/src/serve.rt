@@ -1,14 +1,12 @@
 // A line that was read, served: the call that its word names, with its values.
 ghost use mathlib.Core.Path.{_≡_};
-ghost use Rattle.console.specs.Serve.{poked, serveNamed, servePoke, isCall, serveCalls, isTool, serveSlot, serveTools};
+ghost use Rattle.console.specs.Serve.{serveNamed, isCall, serveCalls};
 ghost use Rattle.console.specs.Serve.{serveSession, serveAlone, serve, isStep};
-use crate::tools;
-use calls::Next;
-use calls::Turn;
-use calls::value;
+use values::Next;
+use values::Turn;
+use values::value;
 use dock::Endpoint;
-use lines::reading::Reading;
-use lines::words;
+use lines::Reading;
 
 // `begin` or `whole`, and a request.
 fn serve_named(
@@ -24,8 +22,8 @@ fn serve_named(
 ) -> Turn
     ensures { λ s. ⌜ (s, now (ring .exit), now (finished .exit), now (records .exit), now (packets .exit), now (out .exit)) ≡ serveNamed e (now (ring .entry)) (now (finished .entry)) (now (records .entry)) (now (packets .entry)) r (now (values .entry)) (at, now (out .entry)) ⌝ }
 {
-    let request = calls::request_of(r.word, values);
-    let lengths = calls::lengths_of(r.word, values, r.count);
+    let request = values::request_of(r.word, values);
+    let lengths = values::lengths_of(r.word, values, r.count);
     if r.before == words::BEGIN {
         return calls::begun(e, records, packets, request, lengths, out, at);
     }
@@ -40,59 +38,6 @@ fn serve_named(
         out,
         at,
     )
-}
-
-fn poked(done: bool) -> Next
-    ensures { λ r. ⌜ r ≡ poked done ⌝ }
-{
-    if done { Next::On } else { Next::Bad }
-}
-
-// `poke`: a word of a table is forged.
-fn serve_poke(
-    e: Endpoint,
-    ring: &mut [u32],
-    finished: &mut [u32],
-    records: &mut [u64],
-    packets: &mut [u64],
-    name: u64,
-    values: &[u64],
-    at: usize,
-) -> Turn
-    ensures { λ s. ⌜ (s, now (ring .exit), now (finished .exit), now (records .exit), now (packets .exit)) ≡ servePoke e (now (ring .entry)) (now (finished .entry)) (now (records .entry)) (now (packets .entry)) name (now (values .entry)) at ⌝ }
-{
-    let i = value(values, 0);
-    let v = value(values, 1);
-    if name == words::RING {
-        let done = tools::forge32(ring, i, calls::word(v));
-        return Turn {
-            e,
-            at,
-            next: poked(done),
-        };
-    }
-    if name == words::FINISHED {
-        let done = tools::forge32(finished, i, calls::word(v));
-        return Turn {
-            e,
-            at,
-            next: poked(done),
-        };
-    }
-    if name == words::RECORDS {
-        let done = tools::forge64(records, i, v);
-        return Turn {
-            e,
-            at,
-            next: poked(done),
-        };
-    }
-    let done = tools::forge64(packets, i, v);
-    Turn {
-        e,
-        at,
-        next: poked(done),
-    }
 }
 
 // The calls that a drive adds.
@@ -152,73 +97,6 @@ fn serve_calls(
     calls::pointed(e, out, at)
 }
 
-// What shows and forges.
-fn is_tool(w: u64) -> bool
-    ensures { λ r. ⌜ r ≡ isTool w ⌝ }
-{
-    if w == words::SLOT {
-        return true;
-    }
-    if w == words::STATE {
-        return true;
-    }
-    if w == words::NEXTID {
-        return true;
-    }
-    w == words::NEW
-}
-
-// `slot`: a slot as it stands in the ring.
-fn serve_slot(e: Endpoint, ring: &[u32], index: u64, out: &mut [u8], at: usize) -> Turn
-    ensures { λ s. ⌜ (s, now (out .exit)) ≡ serveSlot e (now (ring .entry)) index (at, now (out .entry)) ⌝ }
-{
-    let slot = index as usize;
-    if ring.len() / 4 <= slot {
-        return Turn {
-            e,
-            at,
-            next: Next::Bad,
-        };
-    }
-    let w = controller::slot_words(ring, slot);
-    let end = answers::put_slot(out, at, b"slot", slot, w);
-    Turn {
-        e,
-        at: end,
-        next: Next::On,
-    }
-}
-
-fn serve_tools(e: Endpoint, ring: &[u32], w: u64, values: &[u64], out: &mut [u8], at: usize) -> Turn
-    ensures { λ s. ⌜ (s, now (out .exit)) ≡ serveTools e (now (ring .entry)) w (now (values .entry)) (at, now (out .entry)) ⌝ }
-{
-    let first = value(values, 0);
-    if w == words::SLOT {
-        return serve_slot(e, ring, first, out, at);
-    }
-    if w == words::STATE {
-        let end = answers::put_state(out, at, e);
-        return Turn {
-            e,
-            at: end,
-            next: Next::On,
-        };
-    }
-    if w == words::NEXTID {
-        let next = tools::with_next(e, first);
-        return Turn {
-            e: next,
-            at,
-            next: Next::On,
-        };
-    }
-    Turn {
-        e,
-        at,
-        next: Next::New,
-    }
-}
-
 // The words of a session.
 fn serve_session(
     e: Endpoint,
@@ -251,8 +129,8 @@ fn serve_session(
             next: Next::Bad,
         };
     }
-    let request = calls::request_of(w, values);
-    let lengths = calls::lengths_of(w, values, r.count);
+    let request = values::request_of(w, values);
+    let lengths = values::lengths_of(w, values, r.count);
     calls::asked(
         e,
         ring,
@@ -293,8 +171,8 @@ fn serve_alone(
     if is_call(w) {
         return serve_calls(e, records, w, values, out, at);
     }
-    if is_tool(w) {
-        return serve_tools(e, ring, w, values, out, at);
+    if bench::serve::is_tool(w) {
+        return bench::serve::serve_tools(e, ring, w, values, out, at);
     }
     serve_session(e, ring, finished, records, packets, r, values, out, at)
 }
@@ -324,7 +202,7 @@ pub fn serve(
         return serve_alone(e, ring, finished, records, packets, r, values, out, at);
     }
     if r.before == words::POKE {
-        return serve_poke(e, ring, finished, records, packets, r.word, values, at);
+        return bench::serve::serve_poke(e, ring, finished, records, packets, r.word, values, at);
     }
     serve_named(e, ring, finished, records, packets, r, values, out, at)
 }

@@ -14,11 +14,11 @@ use Rattle.dock.specs.Retire.{retire}
 use Rattle.dock.specs.Start.{start}
 use Rattle.dock.specs.Store.{store}
 use Rattle.dock.specs.Submit.{submit}
-use Rattle.saved.specs.State.{Narrow, load}
-use Rattle.saved.specs.Request.{isRequest, requestOf}
+use Rattle.loaded.specs.State.{Narrow, load}
+use Rattle.told.specs.Request.{isRequest, requestOf}
 use Rattle.saved.specs.Settle.{numbered, told}
 use Rattle.saved.proofs.LeavesLaws.{make-moves, configure-leaves, start-leaves, store-leaves, submit-leaves, reclaim-leaves, retire-leaves, begin-leaves, end-leaves}
-use Rattle.saved.proofs.SavedLaws.{kept-says}
+use Rattle.loaded.proofs.SavedLaws.{kept-says}
 use Rattle.dock_c.specs.Exported.{isState, areWords, made, configured, started, storedOne, submitted, reclaimed, retired, resetBegun, resetEnded}
 
 -- ---- calls that tell their number only

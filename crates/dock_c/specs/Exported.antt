@@ -20,9 +20,9 @@ use Rattle.dock.specs.Cancel.{cancel}
 use Rattle.dock.specs.Retire.{retire}
 use Rattle.dock.specs.Reset.{beginReset, endReset}
 use Rattle.dock.specs.Commands.{stop, resume, pointer}
-use Rattle.saved.specs.State.{stateWords, load}
-use Rattle.saved.specs.Request.{isRequest, requestOf}
-use Rattle.saved.specs.Answer.{answerWords, toldOf, spoken, reclaimedTold}
+use Rattle.loaded.specs.State.{stateWords, load}
+use Rattle.told.specs.Request.{isRequest, requestOf}
+use Rattle.told.specs.Answer.{answerWords, toldOf, spoken, reclaimedTold}
 use Rattle.saved.specs.Settle.{numbered, told}
 
 -- The words have their lengths: of a call that tells its number only, and of one that has values to tell.

@@ -8,15 +8,15 @@
 // Each function loads the endpoint, makes the call of its name, saves the endpoint and tells the answer; specs/Exported.antt says so, once each.
 ghost use mathlib.Core.Path.{_≡_};
 ghost use Rattle.dock_c.specs.Exported.{made, configured, started, storedOne, submitted, handedOver, reclaimed, cancelled, retired, resetBegun, resetEnded, stopped, resumed, pointed};
-use saved::answer;
-use saved::answer::ANSWER_WORDS;
-use saved::answer::tell;
-use saved::request::is_request;
-use saved::request::request_of;
+use told::answer;
+use told::answer::ANSWER_WORDS;
+use told::answer::tell;
+use told::request::is_request;
+use told::request::request_of;
 use saved::settle::settle;
 use saved::settle::settle_told;
 use saved::state::STATE_WORDS;
-use saved::state::load;
+use loaded::load;
 use trb::Words;
 
 // ---- building
@@ -39,7 +39,7 @@ pub extern "C" fn thn_make(
     if state.len() != STATE_WORDS {
         return 1;
     }
-    let m = making::make(
+    let m = making::make::make(
         ring,
         finished,
         records,
@@ -60,7 +60,7 @@ pub extern "C" fn thn_configure(state: &mut [u64], packet: u16, burst: u8, inter
     if state.len() != STATE_WORDS {
         return 1;
     }
-    let c = building::configure::configure_periodic(load(state), packet, burst, interval);
+    let c = making::configure::configure_periodic(load(state), packet, burst, interval);
     settle(state, c)
 }
 
@@ -191,7 +191,7 @@ pub extern "C" fn thn_reclaim(
     if answer.len() != ANSWER_WORDS {
         return 1;
     }
-    let r = completion::reclaim_request(load(state), finished, records, packets, id);
+    let r = reclaiming::reclaim_request(load(state), finished, records, packets, id);
     let a = r.answer;
     let e = r.endpoint;
     settle_told(state, answer, answer::reclaimed(a), e)

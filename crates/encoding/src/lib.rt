@@ -114,23 +114,9 @@ pub fn words_of(trb: Trb, cycle: bool) -> Words
     }
 }
 
-// Fills a lent part of four words; any other part is left as it is, and the answer is no.
-pub fn put_words(part: &mut [u32], w: Words) -> bool
-    ensures { λ r. ⌜ (r, now (part .exit)) ≡ filled 4 (now (part .entry)) (listed w) ⌝ }
-{
-    if part.len() != 4 {
-        return false;
-    }
-    part[0] = w.w0;
-    part[1] = w.w1;
-    part[2] = w.w2;
-    part[3] = w.w3;
-    true
-}
-
 // Fills a lent part of four words with a TRB; any other part is left as it is, and the answer is no.
 pub fn encode(part: &mut [u32], trb: Trb, cycle: bool) -> bool
     ensures { λ r. ⌜ (r, now (part .exit)) ≡ filled 4 (now (part .entry)) (listed (wordsOf trb cycle)) ⌝ }
 {
-    put_words(part, words_of(trb, cycle))
+    part::put_words(part, words_of(trb, cycle))
 }

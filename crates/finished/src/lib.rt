@@ -36,7 +36,7 @@ fn put_place(finished: &mut [u32], place: usize, w: Words)
     ensures { λ _. ⌜ now (finished .exit) ≡ putWords (now (finished .entry)) place w ⌝ }
 {
     let start = 4 * place;
-    encoding::put_words(&mut finished[start..start + 4], w);
+    part::put_words(&mut finished[start..start + 4], w);
 }
 
 // The place becomes empty, and its words 0.

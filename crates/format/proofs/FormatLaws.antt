@@ -6,9 +6,9 @@ use mathlib.Core.Option.{Option, none, some}
 use mathlib.Core.Path.{_≡_, refl, sym, ap, _∙_}
 use lib.Dec.{eqb}
 use Rattle.base.specs.First.{pick}
-use Rattle.lines.specs.declared.reading.Reading.{Reading}
-use Rattle.lines.specs.Words.{unknown, name, formOf, baseOf, mostOf, restOf}
-use Rattle.lines.specs.Digits.{digitOf, fits, numberFrom, number}
+use Rattle.lines.specs.declared.Reading.{Reading}
+use Rattle.words.specs.Words.{unknown, name, formOf, baseOf, mostOf, restOf}
+use Rattle.digits.specs.Digits.{digitOf, fits, numberFrom, number}
 use Rattle.lines.specs.Reader.{start, bad, grows, grown, letter, digit, keep, closeWord, closeNumber, close, opened, feed, complete, finish, feedAll}
 use Rattle.format.specs.Format.{head, tail, wordFrom, Said, badLine, said, ifRead, follow, line}
 

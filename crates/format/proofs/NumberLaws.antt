@@ -13,9 +13,9 @@ use lib.Dec.{ltb, leb}
 use Rattle.base.specs.First.{pick}
 use Rattle.base.proofs.Compare.{lt-or-le}
 use Rattle.io.specs.Digits.{glyph, digits}
-use Rattle.lines.specs.Digits.{digitOf, fits, numberFrom, number}
-use Rattle.lines.specs.Page.{placesIn, places, decimal, hex}
-use Rattle.lines.proofs.TextLaws.{places-least}
+use Rattle.digits.specs.Digits.{digitOf, fits, numberFrom, number}
+use Rattle.page.specs.Page.{placesIn, places, decimal, hex}
+use Rattle.page.proofs.TextLaws.{places-least}
 
 -- Every byte is a digit of the base,
 abbrev pub allDigits : ℕ → List ℕ → Bool

@@ -7,8 +7,8 @@ use mathlib.Core.Path.{_≡_, refl, ap, _∙_}
 use native.Mathlib.Omega.{arith}
 use lib.Dec.{eqb}
 use lib.ListN.{length}
-use Rattle.lines.specs.declared.reading.Reading.{Reading}
-use Rattle.lines.specs.declared.reading.Scanned.{Scanned}
+use Rattle.lines.specs.declared.Reading.{Reading}
+use Rattle.lines.specs.declared.Scanned.{Scanned}
 use Rattle.lines.specs.Reader.{feed, finish, feedAll, scan}
 use Rattle.format.proofs.FormatLaws.{readAll}
 

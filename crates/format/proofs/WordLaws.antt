@@ -11,7 +11,7 @@ use lib.Dec.{eqb}
 use lib.ListN.{length}
 use Rattle.base.specs.First.{pick}
 use Rattle.base.proofs.Decide.{Decides, by-leb, by-ltb, both}
-use Rattle.lines.specs.Words.{spelling}
+use Rattle.words.specs.Words.{spelling}
 use Rattle.lines.specs.Reader.{grows, grown}
 use Rattle.format.specs.Format.{wordFrom}
 

@@ -8,8 +8,8 @@ use mathlib.Core.List.{List, [], _∷_}
 use mathlib.Core.Option.{Option, none, some}
 use lib.Dec.{eqb}
 use Rattle.base.specs.First.{pick}
-use Rattle.lines.specs.Words.{unknown, name, formOf, baseOf, mostOf, restOf}
-use Rattle.lines.specs.Digits.{number}
+use Rattle.words.specs.Words.{unknown, name, formOf, baseOf, mostOf, restOf}
+use Rattle.digits.specs.Digits.{number}
 use Rattle.lines.specs.Reader.{grows, grown, keep, complete}
 
 -- The bytes before the first tab, and the fields behind it.

@@ -1,6 +1,3 @@
 -- Laws of the format: numbers, pages, and what the reader comes to.
 pub mod PickLaws
-pub mod NumberLaws
-pub mod PageLaws
 pub mod ScanLaws
-pub mod TextLaws

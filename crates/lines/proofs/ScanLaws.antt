@@ -7,8 +7,8 @@ use native.Mathlib.Numerals.{add-one}
 use borrow.Author.Tests.{eq-eqb, ne-eqb}
 use lib.ListN.{length, getD, drop}
 use lib.Seq.{drop-cons}
-use Rattle.lines.specs.declared.reading.Reading.{Reading}
-use Rattle.lines.specs.declared.reading.Scanned.{Scanned}
+use Rattle.lines.specs.declared.Reading.{Reading}
+use Rattle.lines.specs.declared.Scanned.{Scanned}
 use Rattle.lines.specs.Reader.{feed, finish, scan}
 
 module _ (bytes : List ℕ) (at : ℕ) (r : Reading) (values : List ℕ) (here : at < length bytes) where

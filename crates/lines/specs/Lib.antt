@@ -1,5 +1,2 @@
 -- The format of a session's lines: words, digits, the reader between two bytes, and what is written.
-pub mod Words
-pub mod Digits
 pub mod Reader
-pub mod Page

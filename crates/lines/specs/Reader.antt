@@ -5,10 +5,10 @@ use mathlib.Core.List.{List, [], _∷_}
 use lib.Dec.{eqb, ltb, leb}
 use lib.ListN.{length, set}
 use Rattle.base.specs.First.{pick}
-use Rattle.lines.specs.declared.reading.Reading.{Reading}
-use Rattle.lines.specs.declared.reading.Scanned.{Scanned}
-use Rattle.lines.specs.Words.{unknown, name, counts, formOf, baseOf, mostOf, restOf}
-use Rattle.lines.specs.Digits.{digitOf, fits}
+use Rattle.lines.specs.declared.Reading.{Reading}
+use Rattle.lines.specs.declared.Scanned.{Scanned}
+use Rattle.words.specs.Words.{unknown, name, counts, formOf, baseOf, mostOf, restOf}
+use Rattle.digits.specs.Digits.{digitOf, fits}
 
 abbrev pub start : Bool → Reading
 start full =

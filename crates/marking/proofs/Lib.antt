@@ -1,8 +1,6 @@
 -- The laws of the walk over packets.
 pub mod FitLaws
 pub mod KeepLaws
-pub mod LentArray
-pub mod Machine
 pub mod MirrorLaws
 pub mod PlaceLaws
 pub mod TurnLaws

@@ -8,7 +8,7 @@ ghost use mathlib.Core.Path.{_≡_};
 ghost use Prim.Native.Nat.{_+_, _<_};
 ghost use lib.ListN.{length};
 ghost use Rattle.finished.specs.Finished.{finishedAt};
-ghost use Rattle.marking.specs.Marking.{behind, fitting, beginOf, onward, closedOf, creditOf, seenOf, turnOf, Fine, walked};
+ghost use Rattle.marking.specs.Marking.{behind, fitting, beginOf, onward, closedOf, creditOf, seenOf, turnOf, Fine};
 use finished::Finished;
 use packets::PACKETS;
 use packets::Packet;
@@ -212,34 +212,8 @@ pub fn turn(p: Packet, finished: &[u32], s: Standing) -> Turned
     look(finished::get_finished(finished, place), p, s)
 }
 
-// The loop: each packet is taken, turned and put back, until the walk stands at its end.
-pub fn mark_packets(packets: &mut [Packet], finished: &[u32], b: Block) -> Standing
-    ensures { λ r. ⌜ (now (packets .exit) ≡ walked (now (packets .entry)) (now (finished .entry)) b .packets) × (r ≡ walked (now (packets .entry)) (now (finished .entry)) b .standing) ⌝ }
-{
-    let mut s = begin(packets.len(), finished.len(), b);
-    while s.at < s.end {
-        let at = s.at;
-        let t = turn(packets[at], finished, s);
-        packets[at] = t.packet;
-        s = t.standing;
-    }
-    s
-}
-
 // The packets of a record by value, and how the walk ended.
 pub struct Marked {
     pub packets: [Packet; PACKETS],
     pub standing: Standing,
-}
-
-// The same over packets by value: they are lent from a local.
-pub fn marked_block(packets: [Packet; PACKETS], finished: &[u32], b: Block) -> Marked
-    ensures { λ r. ⌜ (r .packets ≡ walked packets (now (finished .entry)) b .packets) × (r .standing ≡ walked packets (now (finished .entry)) b .standing) ⌝ }
-{
-    let mut held = packets;
-    let standing = mark_packets(&mut held, finished, b);
-    Marked {
-        packets: held,
-        standing,
-    }
 }

@@ -1,16 +1,33 @@
 // The loop of a session or a drive: bytes are read from standard input and handed to the reader of lines, each line is served, and what stands on the
-// page is written, to the input's end or a bad line. What a line does is decided in `console::serve` and `calls::opening_of`.
-use calls::Next;
-use calls::Opening;
-use calls::value;
+// page is written, to the input's end or a bad line. What a line does is decided in `console::serve` and `values::opening_of`.
+ghost use Prim.Native.Nat.{_≤_};
+ghost use lib.ListN.{length};
+use bench::tools;
 use console::serve;
-use console::tools;
 use controller::Consumer;
+use dock::Changed;
 use dock::Endpoint;
 use dock::Outcome;
-use lines::reading;
-use lines::reading::Reading;
-use lines::reading::Scanned;
+use lines::Reading;
+use lines::Scanned;
+use values::Next;
+use values::Opening;
+use values::Turn;
+use values::value;
+
+// What a program lends: the words of a ring of 4,096 slots and of its finished table, records and packets, the bytes read, the numbers of a line, and a
+// page with room for the longest answer.
+pub const WORDS: usize = 16384;
+
+pub const RECORDS: usize = checks::RECORDS_SIZE;
+
+pub const PACKETS: usize = checks::PACKETS_SIZE;
+
+pub const BYTES: usize = 65536;
+
+pub const VALUES: usize = 4098;
+
+pub const PAGE: usize = 393216;
 
 // The input: what was read of it and not yet looked at stands from `at` to `have`. `line` is the number of the line that was read last.
 pub struct Input {
@@ -59,9 +76,9 @@ fn more(bytes: &mut [u8], from: usize, have: usize, out: &[u8], page: usize) -> 
 // Reads on in what came.
 fn scan_to(bytes: &[u8], from: usize, have: usize, line: Reading, values: &mut [u64]) -> Scanned {
     if bytes.len() < have {
-        return reading::scan(bytes, from, line, values);
+        return lines::scan(bytes, from, line, values);
     }
-    reading::scan(&bytes[..have], from, line, values)
+    lines::scan(&bytes[..have], from, line, values)
 }
 
 // The next line.
@@ -76,7 +93,7 @@ fn next_line(
     let number = std::num::wrapping_add_u64(input.line, 1);
     let mut from = input.at;
     let mut have = input.have;
-    let mut line = reading::start(full);
+    let mut line = lines::start(full);
     let mut some = false;
     let mut page = at;
     let mut turns = u64::MAX;
@@ -87,7 +104,7 @@ fn next_line(
         have = m.have;
         page = m.page;
         if have == 0 {
-            line = reading::finish(line, values);
+            line = lines::finish(line, values);
             return gotten(some, line, from, have, number, page);
         }
         let s = scan_to(bytes, from, have, line, values);
@@ -115,70 +132,6 @@ fn gotten(some: bool, line: Reading, at: usize, have: usize, number: u64, page: 
     }
 }
 
-// What a line leaves, with a ring made: the endpoint, the controller, the page, and whether to go on: 0 with the next line, 1 with no ring, 2 not at all.
-pub struct One {
-    pub e: Endpoint,
-    pub c: Consumer,
-    pub at: usize,
-    pub next: u8,
-}
-
-// One line with a ring made, and `bad` with its number where it is bad.
-fn attend_one(
-    e: Endpoint,
-    c: Consumer,
-    ring: &mut [u32],
-    finished: &mut [u32],
-    records: &mut [u64],
-    packets: &mut [u64],
-    r: Reading,
-    number: u64,
-    values: &[u64],
-    out: &mut [u8],
-    at: usize,
-) -> One {
-    if serve::is_step(r) {
-        let w = tools::walk_on(value(values, 0), ring, c, out, at);
-        let stands = w.c;
-        return One {
-            e,
-            c: stands,
-            at: w.at,
-            next: 0,
-        };
-    }
-    let t = serve::serve(e, ring, finished, records, packets, r, values, out, at);
-    let next = t.next;
-    let after = t.e;
-    match next {
-        Next::On => One {
-            e: after,
-            c,
-            at: t.at,
-            next: 0,
-        },
-        Next::New => One {
-            e: after,
-            c,
-            at: t.at,
-            next: 1,
-        },
-        Next::Bad => One {
-            e: after,
-            c,
-            at: answers::put_bad(out, t.at, number),
-            next: 2,
-        },
-    }
-}
-
-// How lines with a ring ended: with no ring, or altogether.
-pub struct Left {
-    pub over: bool,
-    pub input: Input,
-    pub page: usize,
-}
-
 // A page on which much stands is written, so that the next line has room: a request writes some 3,100 bytes, and a drive's `step` at most 376,754.
 fn relieve(out: &[u8], at: usize) -> usize {
     if at < 16384 {
@@ -187,25 +140,254 @@ fn relieve(out: &[u8], at: usize) -> usize {
     flush(out, at)
 }
 
-// The lines with a ring made.
-fn attend(
-    first: Endpoint,
+// What stands between two lines: whether a ring is made, its endpoint, and the controller.
+pub struct Bench {
+    pub made: bool,
+    pub e: Endpoint,
+    pub c: Consumer,
+}
+
+// What a line leaves: the bench, how many bytes stand on the page, and whether the line was bad, so that nothing follows.
+pub struct Left {
+    pub bench: Bench,
+    pub page: usize,
+    pub over: bool,
+}
+
+// The words of a table of so many slots; of more than 4,096 there is none.
+fn size_of(slots: usize) -> usize
+    ensures { λ r. ⌜ r ≤ 16384 ⌝ }
+{
+    if 4096 < slots {
+        return 0;
+    }
+    4 * slots
+}
+
+// A ring is made in the parts of the tables that have its size.
+fn make_in(
     ring: &mut [u32],
     finished: &mut [u32],
-    records: &mut [u64],
-    packets: &mut [u64],
-    bytes: &mut [u8],
-    values: &mut [u64],
-    out: &mut [u8],
-    full: bool,
-    input: Input,
+    size: usize,
+    records: &mut [u64; RECORDS],
+    packets: &mut [u64; PACKETS],
+    values: &[u64],
+) -> Changed
+    requires { ⌜ (size ≤ length (now ring)) × (size ≤ length (now finished)) ⌝ }
+{
+    calls::made(
+        &mut ring[..size],
+        &mut finished[..size],
+        records,
+        packets,
+        values,
+    )
+}
+
+// A line is served on them,
+fn serve_in(
+    e: Endpoint,
+    ring: &mut [u32],
+    finished: &mut [u32],
+    size: usize,
+    records: &mut [u64; RECORDS],
+    packets: &mut [u64; PACKETS],
+    r: Reading,
+    values: &[u64],
+    out: &mut [u8; PAGE],
+    at: usize,
+) -> Turn
+    requires { ⌜ (size ≤ length (now ring)) × (size ≤ length (now finished)) ⌝ }
+{
+    serve::serve(
+        e,
+        &mut ring[..size],
+        &mut finished[..size],
+        records,
+        packets,
+        r,
+        values,
+        out,
+        at,
+    )
+}
+
+// and the controller steps there.
+fn step_in(
+    most: u64,
+    ring: &[u32],
+    size: usize,
+    c: Consumer,
+    out: &mut [u8; PAGE],
+    at: usize,
+) -> tools::Walked
+    requires { ⌜ size ≤ length (now ring) ⌝ }
+{
+    tools::walk_on(most, &ring[..size], c, out, at)
+}
+
+// What is left behind a ring that was made, or was refused.
+fn opened(bench: Bench, m: Changed, out: &mut [u8; PAGE], at: usize) -> Left {
+    let answer = m.answer;
+    let e = m.endpoint;
+    match answer {
+        Outcome::Refused(number) => Left {
+            bench,
+            page: phrases::put_no(out, at, number),
+            over: false,
+        },
+        Outcome::Done => Left {
+            bench: Bench {
+                made: true,
+                e,
+                c: controller::outset(),
+            },
+            page: at,
+            over: false,
+        },
+    }
+}
+
+// A line with no ring made: it makes a ring of at most so many slots, or it is bad.
+fn open(
+    bench: Bench,
+    ring: &mut [u32; WORDS],
+    finished: &mut [u32; WORDS],
+    records: &mut [u64; RECORDS],
+    packets: &mut [u64; PACKETS],
+    line: Reading,
+    number: u64,
+    values: &[u64],
+    out: &mut [u8; PAGE],
+    at: usize,
+    most: u64,
+) -> Left {
+    let opening = values::opening_of(line, values, most);
+    match opening {
+        Opening::Bad => Left {
+            bench,
+            page: phrases::put_bad(out, at, number),
+            over: true,
+        },
+        Opening::TooLarge => Left {
+            bench,
+            page: phrases::put_no(out, at, 13),
+            over: false,
+        },
+        Opening::Ring => {
+            let size = size_of(value(values, 0) as usize);
+            let m = make_in(ring, finished, size, records, packets, values);
+            opened(bench, m, out, at)
+        }
+    }
+}
+
+// What is left behind a line that was served, and `bad` with its number where it is bad.
+fn served(c: Consumer, t: Turn, number: u64, out: &mut [u8; PAGE]) -> Left {
+    let next = t.next;
+    let e = t.e;
+    match next {
+        Next::On => Left {
+            bench: Bench { made: true, e, c },
+            page: t.at,
+            over: false,
+        },
+        Next::New => Left {
+            bench: Bench { made: false, e, c },
+            page: t.at,
+            over: false,
+        },
+        Next::Bad => Left {
+            bench: Bench { made: true, e, c },
+            page: phrases::put_bad(out, t.at, number),
+            over: true,
+        },
+    }
+}
+
+// A line with a ring made: `step`, or any other.
+fn attend(
+    e: Endpoint,
+    c: Consumer,
+    ring: &mut [u32; WORDS],
+    finished: &mut [u32; WORDS],
+    records: &mut [u64; RECORDS],
+    packets: &mut [u64; PACKETS],
+    line: Reading,
+    number: u64,
+    values: &[u64],
+    out: &mut [u8; PAGE],
     at: usize,
 ) -> Left {
-    let mut e = first;
-    let mut c = controller::outset();
-    let mut place = input;
-    let mut page = at;
-    let mut over = true;
+    let size = size_of(e.shape.slots);
+    if serve::is_step(line) {
+        let w = step_in(value(values, 0), ring, size, c, out, at);
+        let stands = w.c;
+        return Left {
+            bench: Bench {
+                made: true,
+                e,
+                c: stands,
+            },
+            page: w.at,
+            over: false,
+        };
+    }
+    let t = serve_in(
+        e, ring, finished, size, records, packets, line, values, out, at,
+    );
+    served(c, t, number, out)
+}
+
+// One line.
+fn turn(
+    bench: Bench,
+    ring: &mut [u32; WORDS],
+    finished: &mut [u32; WORDS],
+    records: &mut [u64; RECORDS],
+    packets: &mut [u64; PACKETS],
+    line: Reading,
+    number: u64,
+    values: &[u64],
+    out: &mut [u8; PAGE],
+    at: usize,
+    most: u64,
+) -> Left {
+    if !bench.made {
+        return open(
+            bench, ring, finished, records, packets, line, number, values, out, at, most,
+        );
+    }
+    let e = bench.e;
+    let c = bench.c;
+    attend(
+        e, c, ring, finished, records, packets, line, number, values, out, at,
+    )
+}
+
+// All lines of standard input; a ring has at most `most` slots. `full` says that a drive's words are known.
+pub fn run(
+    ring: &mut [u32; WORDS],
+    finished: &mut [u32; WORDS],
+    records: &mut [u64; RECORDS],
+    packets: &mut [u64; PACKETS],
+    bytes: &mut [u8; BYTES],
+    values: &mut [u64; VALUES],
+    out: &mut [u8; PAGE],
+    full: bool,
+    most: u64,
+) {
+    let mut place = Input {
+        at: 0,
+        have: 0,
+        line: 0,
+    };
+    let mut bench = Bench {
+        made: false,
+        e: making::make::blank(),
+        c: controller::outset(),
+    };
+    let mut page: usize = 0;
     let mut turns = u64::MAX;
     while 0 < turns {
         turns -= 1;
@@ -215,190 +397,14 @@ fn attend(
         if !g.some {
             break;
         }
-        let one = attend_one(
-            e,
-            c,
-            ring,
-            finished,
-            records,
-            packets,
-            g.line,
-            place.line,
-            values,
-            out,
-            page,
+        let l = turn(
+            bench, ring, finished, records, packets, g.line, place.line, values, out, page, most,
         );
-        e = one.e;
-        c = one.c;
-        page = relieve(out, one.at);
-        if one.next != 0 {
-            over = one.next == 2;
+        bench = l.bench;
+        page = relieve(out, l.page);
+        if l.over {
             break;
         }
     }
-    Left {
-        over,
-        input: place,
-        page,
-    }
-}
-
-// A ring is made in tables of its size, and its lines are attended.
-fn with_ring(
-    ring: &mut [u32],
-    finished: &mut [u32],
-    records: &mut [u64],
-    packets: &mut [u64],
-    bytes: &mut [u8],
-    values: &mut [u64],
-    out: &mut [u8],
-    full: bool,
-    input: Input,
-    at: usize,
-) -> Left {
-    let m = calls::made(ring, finished, records, packets, values);
-    let answer = m.answer;
-    let e = m.endpoint;
-    match answer {
-        Outcome::Refused(number) => Left {
-            over: false,
-            input,
-            page: answers::put_no(out, at, number),
-        },
-        Outcome::Done => attend(
-            e,
-            ring,
-            finished,
-            records,
-            packets,
-            bytes,
-            values,
-            out,
-            full,
-            input,
-            at,
-        ),
-    }
-}
-
-// The words of a table of so many slots; `most` is at most 4,096.
-fn size_of(slots: u64, most: u64) -> usize {
-    if 4096 < slots {
-        return 0;
-    }
-    if most < slots {
-        return 0;
-    }
-    4 * slots as usize
-}
-
-// A line with no ring made: a ring of at most so many slots, or it is bad.
-fn without_ring(
-    ring: &mut [u32],
-    finished: &mut [u32],
-    records: &mut [u64],
-    packets: &mut [u64],
-    bytes: &mut [u8],
-    values: &mut [u64],
-    out: &mut [u8],
-    full: bool,
-    most: u64,
-    line: Reading,
-    input: Input,
-    at: usize,
-) -> Left {
-    let opening = calls::opening_of(line, values, most);
-    match opening {
-        Opening::Bad => Left {
-            over: true,
-            input,
-            page: answers::put_bad(out, at, input.line),
-        },
-        Opening::TooLarge => Left {
-            over: false,
-            input,
-            page: answers::put_no(out, at, 13),
-        },
-        Opening::Ring => {
-            let size = size_of(value(values, 0), most);
-            if ring.len() < size {
-                return Left {
-                    over: true,
-                    input,
-                    page: at,
-                };
-            }
-            if finished.len() < size {
-                return Left {
-                    over: true,
-                    input,
-                    page: at,
-                };
-            }
-            with_ring(
-                &mut ring[..size],
-                &mut finished[..size],
-                records,
-                packets,
-                bytes,
-                values,
-                out,
-                full,
-                input,
-                at,
-            )
-        }
-    }
-}
-
-// All lines of standard input; a ring has at most `most` slots, and the tables have room for it. `full` says that a drive's words are known.
-pub fn run(
-    ring: &mut [u32],
-    finished: &mut [u32],
-    records: &mut [u64],
-    packets: &mut [u64],
-    bytes: &mut [u8],
-    values: &mut [u64],
-    out: &mut [u8],
-    full: bool,
-    most: u64,
-) {
-    let mut place = Input {
-        at: 0,
-        have: 0,
-        line: 0,
-    };
-    let mut page: usize = 0;
-    let mut turns = u64::MAX;
-    while 0 < turns {
-        turns -= 1;
-        let g = next_line(bytes, place, values, full, out, page);
-        page = g.page;
-        let line = g.line;
-        let input = g.input;
-        if !g.some {
-            flush(out, page);
-            return;
-        }
-        let l = without_ring(
-            ring,
-            finished,
-            records,
-            packets,
-            bytes,
-            values,
-            out,
-            full,
-            most,
-            line,
-            input,
-            page,
-        );
-        page = l.page;
-        place = l.input;
-        if l.over {
-            flush(out, page);
-            return;
-        }
-    }
+    flush(out, page);
 }

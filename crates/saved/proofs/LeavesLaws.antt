@@ -32,8 +32,8 @@ use Rattle.dock.specs.Submit.{submit}
 use Rattle.dock.proofs.FinishLaws.{submit-done}
 use Rattle.dock.proofs.NothingLaws.{reclaim-refused, reclaim-nothing}
 use Rattle.dock.proofs.RefusalLaws.{make-acts, configure-refuses, configure-acts, end-refuses, end-acts, start-refuses, start-acts, store-refuses, store-acts, submit-misfits, submit-refuses, retire-refuses, retire-acts, begin-refuses, begin-clear, begin-acts}
-use Rattle.saved.specs.State.{moves}
-use Rattle.saved.specs.Answer.{reclaimedTold}
+use Rattle.loaded.specs.State.{moves}
+use Rattle.told.specs.Answer.{reclaimedTold}
 
 -- A number that moves does not fail to.
 moved : (k : ℕ) {number : ℕ} → moves k ≡ true → number ≡ k → moves number ≡ false → ⊥

@@ -1,3 +1,2 @@
 -- The laws of what crosses.
 pub mod LeavesLaws
-pub mod SavedLaws

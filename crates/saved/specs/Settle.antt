@@ -5,9 +5,9 @@ use mathlib.Core.List.{List}
 use Rattle.dock.specs.declared.Changed.{Changed}
 use Rattle.dock.specs.declared.Endpoint.{Endpoint}
 use Rattle.dock.specs.Numbers.{outcomeNumber}
-use Rattle.saved.specs.State.{kept}
-use Rattle.saved.specs.Answer.{spoken}
-use Rattle.saved.specs.declared.answer.Told.{Told}
+use Rattle.loaded.specs.State.{kept}
+use Rattle.told.specs.Answer.{spoken}
+use Rattle.told.specs.declared.answer.Told.{Told}
 
 -- Of a call that tells its number only: number and endpoint.
 unfoldable pub numbered : List ℕ → Changed → ℕ × List ℕ

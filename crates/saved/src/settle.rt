@@ -1,12 +1,12 @@
 // The end of a call: its answer is told, and the endpoint's words are saved where the answer changes the endpoint.
 ghost use mathlib.Core.Path.{_≡_};
 ghost use lib.ListN.{length};
-ghost use Rattle.saved.specs.State.{stateWords};
-ghost use Rattle.saved.specs.Answer.{answerWords};
+ghost use Rattle.loaded.specs.State.{stateWords};
+ghost use Rattle.told.specs.Answer.{answerWords};
 ghost use Rattle.saved.specs.Settle.{numbered, told};
-use crate::answer::Told;
-use crate::answer::outcome;
-use crate::answer::tell;
+use told::answer::Told;
+use told::answer::outcome;
+use told::answer::tell;
 use crate::state::keep;
 use dock::Changed;
 use dock::Endpoint;

@@ -27,9 +27,9 @@ use Rattle.dock.specs.Submit.{afterStore, finish, mostStores}
 use Rattle.dock.proofs.FinishLaws.{start-finishes}
 use Rattle.dock.proofs.RefusalLaws.{start-acts}
 use Rattle.dock.proofs.StartLaws.{start-admitted}
-use Rattle.lines.specs.Page.{Page, putAll}
-use Rattle.answers.specs.Text.{storedLines}
-use Rattle.calls.specs.declared.Turn.{Turn}
+use Rattle.page.specs.Page.{Page, putAll}
+use Rattle.phrases.specs.Text.{storedLines}
+use Rattle.values.specs.declared.Turn.{Turn}
 use Rattle.calls.specs.Calls.{storedBy, storedOne, storesBy, stores, askedBy, asked}
 
 -- The same endpoint, ring and finished table.

@@ -117,7 +117,7 @@ fn walk_over(slots: usize, finished: &[u32], packets: &mut [u64], v: Record, num
         slots,
     };
     let held = load(packets, number, count);
-    let done = marking::marked_block(held, finished, block);
+    let done = sweeping::marked_block(held, finished, block);
     let marked = done.packets;
     keep_all(packets, number, count, marked);
     told(done.standing)

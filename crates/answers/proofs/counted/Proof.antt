@@ -7,7 +7,7 @@ use native.Mathlib.Omega.{arith}
 use borrow.Author.Tests.{lt-ltb, le-ltb}
 use denote.Ref.{now}
 use Rattle.controller.proofs.ReadLaws.{read-past}
-use Rattle.answers.specs.Text.{countedAt}
+use Rattle.phrases.specs.Text.{countedAt}
 use borrow.Author.Needs.{needs}
 use Rattle.answers.proofs.counted.Statement.{statement}
 use Rattle.answers.proofs.counted.Tie as tie

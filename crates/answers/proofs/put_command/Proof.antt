@@ -1,6 +1,6 @@
 -- `put_command` meets its contract. Assumes nothing.
-use Rattle.lines.proofs.PageLaws.{then}
-use Rattle.answers.specs.Text.{commandLine}
+use Rattle.page.proofs.PageLaws.{then}
+use Rattle.phrases.specs.Text.{commandLine}
 use borrow.Author.Needs.{needs}
 use Rattle.answers.proofs.put_command.Statement.{statement}
 use Rattle.answers.proofs.put_command.Tie as tie

@@ -1,5 +1,5 @@
 -- `put_commanded` meets its contract. Assumes nothing.
-use Rattle.answers.specs.Text.{commandedLine}
+use Rattle.phrases.specs.Text.{commandedLine}
 use borrow.Author.Needs.{needs}
 use Rattle.answers.proofs.put_commanded.Statement.{statement}
 use Rattle.answers.proofs.put_commanded.Tie as tie

@@ -1,5 +1,5 @@
 -- `put_cut` meets its contract. Assumes nothing.
-use Rattle.answers.specs.Text.{cutLine}
+use Rattle.phrases.specs.Text.{cutLine}
 use borrow.Author.Needs.{needs}
 use Rattle.answers.proofs.put_cut.Statement.{statement}
 use Rattle.answers.proofs.put_cut.Tie as tie

@@ -1,6 +1,6 @@
 -- `put_done` meets its contract. Assumes nothing.
-use Rattle.lines.proofs.PageLaws.{then}
-use Rattle.answers.specs.Text.{doneLine}
+use Rattle.page.proofs.PageLaws.{then}
+use Rattle.phrases.specs.Text.{doneLine}
 use borrow.Author.Needs.{needs}
 use Rattle.answers.proofs.put_done.Statement.{statement}
 use Rattle.answers.proofs.put_done.Tie as tie

@@ -6,9 +6,9 @@ use native.Mathlib.Omega.{arith}
 use borrow.Author.Needs.{needs}
 use lib.ListN.{length}
 use denote.Ref.{now}
-use Rattle.lines.specs.Page.{Page, putAll, decimalField}
-use Rattle.lines.proofs.PageLaws.{put-both}
-use Rattle.answers.specs.Text.{lengthsText}
+use Rattle.page.specs.Page.{Page, putAll, decimalField}
+use Rattle.page.proofs.PageLaws.{put-both}
+use Rattle.phrases.specs.Text.{lengthsText}
 use Rattle.answers.proofs.put_lengths.Statement.{statement}
 use Rattle.answers.proofs.put_lengths.Tie as tie
 

@@ -1,5 +1,5 @@
 -- `put_outcome` meets its contract. Assumes nothing.
-use Rattle.answers.specs.Text.{outcomeLine}
+use Rattle.phrases.specs.Text.{outcomeLine}
 use borrow.Author.Needs.{needs}
 use Rattle.answers.proofs.put_outcome.Statement.{statement}
 use Rattle.answers.proofs.put_outcome.Tie as tie

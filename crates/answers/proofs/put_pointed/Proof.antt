@@ -1,6 +1,6 @@
 -- `put_pointed` meets its contract. Assumes nothing.
-use Rattle.lines.proofs.PageLaws.{then}
-use Rattle.answers.specs.Text.{pointedLine}
+use Rattle.page.proofs.PageLaws.{then}
+use Rattle.phrases.specs.Text.{pointedLine}
 use borrow.Author.Needs.{needs}
 use Rattle.answers.proofs.put_pointed.Statement.{statement}
 use Rattle.answers.proofs.put_pointed.Tie as tie

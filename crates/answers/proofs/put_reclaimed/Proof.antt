@@ -1,5 +1,5 @@
 -- `put_reclaimed` meets its contract. Assumes nothing.
-use Rattle.answers.specs.Text.{reclaimedLine}
+use Rattle.phrases.specs.Text.{reclaimedLine}
 use borrow.Author.Needs.{needs}
 use Rattle.answers.proofs.put_reclaimed.Statement.{statement}
 use Rattle.answers.proofs.put_reclaimed.Tie as tie

@@ -1,6 +1,6 @@
 -- `put_resetting` meets its contract. Assumes nothing.
-use Rattle.lines.proofs.PageLaws.{then}
-use Rattle.answers.specs.Text.{resettingLines}
+use Rattle.page.proofs.PageLaws.{then}
+use Rattle.phrases.specs.Text.{resettingLines}
 use borrow.Author.Needs.{needs}
 use Rattle.answers.proofs.put_resetting.Statement.{statement}
 use Rattle.answers.proofs.put_resetting.Tie as tie

@@ -1,6 +1,6 @@
 -- `put_rest` meets its contract. Assumes nothing.
-use Rattle.lines.proofs.PageLaws.{then}
-use Rattle.answers.specs.Text.{stateRest}
+use Rattle.page.proofs.PageLaws.{then}
+use Rattle.phrases.specs.Text.{stateRest}
 use borrow.Author.Needs.{needs}
 use Rattle.answers.proofs.put_rest.Statement.{statement}
 use Rattle.answers.proofs.put_rest.Tie as tie

@@ -1,6 +1,6 @@
 -- `put_stands` meets its contract. Assumes nothing.
-use Rattle.lines.proofs.PageLaws.{then}
-use Rattle.answers.specs.Text.{standsLine}
+use Rattle.page.proofs.PageLaws.{then}
+use Rattle.phrases.specs.Text.{standsLine}
 use borrow.Author.Needs.{needs}
 use Rattle.answers.proofs.put_stands.Statement.{statement}
 use Rattle.answers.proofs.put_stands.Tie as tie

@@ -1,6 +1,6 @@
 -- `put_state` meets its contract. Assumes nothing.
-use Rattle.lines.proofs.PageLaws.{then}
-use Rattle.answers.specs.Text.{stateLine}
+use Rattle.page.proofs.PageLaws.{then}
+use Rattle.phrases.specs.Text.{stateLine}
 use borrow.Author.Needs.{needs}
 use Rattle.answers.proofs.put_state.Statement.{statement}
 use Rattle.answers.proofs.put_state.Tie as tie

@@ -1,6 +1,6 @@
 -- `put_stored` meets its contract. Assumes nothing.
-use Rattle.lines.proofs.PageLaws.{then}
-use Rattle.answers.specs.Text.{storedLines}
+use Rattle.page.proofs.PageLaws.{then}
+use Rattle.phrases.specs.Text.{storedLines}
 use borrow.Author.Needs.{needs}
 use Rattle.answers.proofs.put_stored.Statement.{statement}
 use Rattle.answers.proofs.put_stored.Tie as tie

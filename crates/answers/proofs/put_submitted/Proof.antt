@@ -1,5 +1,5 @@
 -- `put_submitted` meets its contract. Assumes nothing.
-use Rattle.answers.specs.Text.{submittedLine}
+use Rattle.phrases.specs.Text.{submittedLine}
 use borrow.Author.Needs.{needs}
 use Rattle.answers.proofs.put_submitted.Statement.{statement}
 use Rattle.answers.proofs.put_submitted.Tie as tie

@@ -1,5 +1,5 @@
 -- `put_taken` meets its contract. Assumes nothing.
-use Rattle.answers.specs.Text.{takenLine}
+use Rattle.phrases.specs.Text.{takenLine}
 use borrow.Author.Needs.{needs}
 use Rattle.answers.proofs.put_taken.Statement.{statement}
 use Rattle.answers.proofs.put_taken.Tie as tie

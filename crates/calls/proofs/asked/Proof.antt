@@ -4,8 +4,8 @@ use mathlib.Core.Path.{sym, ap, _∙_}
 use denote.Ref.{now}
 use Rattle.dock.specs.declared.Changed.{Changed}
 use Rattle.dock.specs.declared.Outcome.{Outcome}
-use Rattle.lines.specs.Page.{Page}
-use Rattle.calls.specs.declared.Turn.{Turn}
+use Rattle.page.specs.Page.{Page}
+use Rattle.values.specs.declared.Turn.{Turn}
 use Rattle.calls.specs.Calls.{turn, askedBy, asked}
 use borrow.Author.Needs.{needs}
 use Rattle.calls.proofs.asked.Statement.{statement}

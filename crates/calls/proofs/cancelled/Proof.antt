@@ -1,7 +1,7 @@
 -- `cancelled` meets its contract. Assumes nothing.
 use mathlib.Core.Path.{ap, _∙_}
 use denote.Ref.{now}
-use Rattle.lines.specs.Page.{Page}
+use Rattle.page.specs.Page.{Page}
 use Rattle.calls.specs.Calls.{turn, cancelledBy, cancelled}
 use Rattle.calls.proofs.cancelled.Statement.{statement}
 use Rattle.calls.proofs.cancelled.Tie as tie

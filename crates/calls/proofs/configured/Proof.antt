@@ -1,7 +1,7 @@
 -- `configured` meets its contract. Assumes nothing.
 use mathlib.Core.Path.{ap, _∙_}
 use denote.Ref.{now}
-use Rattle.lines.specs.Page.{Page}
+use Rattle.page.specs.Page.{Page}
 use Rattle.calls.specs.Calls.{setText, told, changedBy, configured}
 use borrow.Author.Needs.{needs}
 use Rattle.calls.proofs.configured.Statement.{statement}

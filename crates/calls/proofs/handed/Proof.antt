@@ -1,7 +1,7 @@
 -- `handed` meets its contract. Assumes nothing.
 use mathlib.Core.Path.{ap, _∙_}
 use denote.Ref.{now}
-use Rattle.lines.specs.Page.{Page}
+use Rattle.page.specs.Page.{Page}
 use Rattle.calls.specs.Calls.{turn, handedBy, handed}
 use Rattle.calls.proofs.handed.Statement.{statement}
 use Rattle.calls.proofs.handed.Tie as tie

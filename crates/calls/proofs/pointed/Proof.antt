@@ -2,8 +2,8 @@
 use mathlib.Core.Path.{ap, _∙_}
 use denote.Ref.{now}
 use Rattle.dock.specs.declared.Pointed.{Pointed}
-use Rattle.lines.specs.Page.{Page, putAll}
-use Rattle.answers.specs.Text.{pointedLine}
+use Rattle.page.specs.Page.{Page, putAll}
+use Rattle.phrases.specs.Text.{pointedLine}
 use Rattle.calls.specs.Calls.{told, pointed}
 use borrow.Author.Needs.{needs}
 use Rattle.calls.proofs.pointed.Statement.{statement}

@@ -1,7 +1,7 @@
 -- `reclaimed` meets its contract. Assumes nothing.
 use mathlib.Core.Path.{ap, _∙_}
 use denote.Ref.{now}
-use Rattle.lines.specs.Page.{Page}
+use Rattle.page.specs.Page.{Page}
 use Rattle.calls.specs.Calls.{turn, reclaimedBy, reclaimed}
 use Rattle.calls.proofs.reclaimed.Statement.{statement}
 use Rattle.calls.proofs.reclaimed.Tie as tie

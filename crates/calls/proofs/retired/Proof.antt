@@ -1,7 +1,7 @@
 -- `retired` meets its contract. Assumes nothing.
 use mathlib.Core.Path.{ap, _∙_}
 use denote.Ref.{now}
-use Rattle.lines.specs.Page.{Page}
+use Rattle.page.specs.Page.{Page}
 use Rattle.calls.specs.Calls.{turn, retiredBy, retired}
 use borrow.Author.Needs.{needs}
 use Rattle.calls.proofs.retired.Statement.{statement}

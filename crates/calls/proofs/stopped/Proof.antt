@@ -2,8 +2,8 @@
 use mathlib.Core.Path.{ap, _∙_}
 use denote.Ref.{now}
 use Rattle.dock.specs.declared.Command.{Command}
-use Rattle.lines.specs.Page.{Page, putAll}
-use Rattle.answers.specs.Text.{commandedLine}
+use Rattle.page.specs.Page.{Page, putAll}
+use Rattle.phrases.specs.Text.{commandedLine}
 use Rattle.calls.specs.Calls.{told, stopped}
 use borrow.Author.Needs.{needs}
 use Rattle.calls.proofs.stopped.Statement.{statement}

@@ -1,7 +1,7 @@
 -- `stored` meets its contract. Assumes nothing.
 use mathlib.Core.Path.{ap, _∙_}
 use denote.Ref.{now}
-use Rattle.lines.specs.Page.{Page}
+use Rattle.page.specs.Page.{Page}
 use Rattle.calls.specs.Calls.{storedBy, storedOne}
 use Rattle.calls.proofs.stored.Statement.{statement}
 use Rattle.calls.proofs.stored.Tie as tie

@@ -1,7 +1,7 @@
 -- `submitted` meets its contract. Assumes nothing.
 use mathlib.Core.Path.{ap, _∙_}
 use denote.Ref.{now}
-use Rattle.lines.specs.Page.{Page}
+use Rattle.page.specs.Page.{Page}
 use Rattle.calls.specs.Calls.{turn, submittedBy, submitted}
 use Rattle.calls.proofs.submitted.Statement.{statement}
 use Rattle.calls.proofs.submitted.Tie as tie

@@ -1,7 +1,7 @@
 -- `thn_start` meets its contract: the lengths, the call of its name on the loaded endpoint, and what it leaves. Assumes nothing.
 use borrow.Author.Tests.{eq-eqb, ne-eqb}
 use Rattle.base.proofs.Decide.{passed, failed}
-use Rattle.saved.proofs.SavedLaws.{request-size}
+use Rattle.told.proofs.RequestLaws.{request-size}
 use Rattle.dock_c.specs.Exported.{started}
 use borrow.Author.Needs.{needs}
 use Rattle.dock_c.proofs.thn_start.Statement.{statement}

@@ -4,10 +4,11 @@ use denote.Ref.{now}
 use borrow.Author.Tests.{eq-eqb, ne-eqb}
 use Prim.Native.Nat.{ℕ}
 use mathlib.Core.List.{List}
-use Rattle.calls.specs.declared.Turn.{Turn}
+use Rattle.values.specs.declared.Turn.{Turn}
 use Rattle.calls.specs.declared.StoreTurn.{StoreTurn}
-use Rattle.calls.specs.declared.Next.the-variants.{On}
-use Rattle.console.specs.Serve.{leaves, serveAlone}
+use Rattle.values.specs.declared.Next.the-variants.{On}
+use Rattle.bench.specs.Bench.{leaves}
+use Rattle.console.specs.Serve.{serveAlone}
 use borrow.Author.Needs.{needs}
 use Rattle.console.proofs.serve.serve_alone.Statement.{statement}
 use Rattle.console.proofs.serve.serve_alone.Tie as tie

@@ -4,7 +4,7 @@ use denote.Ref.{now}
 use borrow.Author.Tests.{eq-eqb, ne-eqb}
 use Prim.Native.Nat.{ℕ}
 use mathlib.Core.List.{List}
-use Rattle.calls.specs.declared.Turn.{Turn}
+use Rattle.values.specs.declared.Turn.{Turn}
 use Rattle.console.specs.Serve.{serveSession}
 use borrow.Author.Needs.{needs}
 use Rattle.console.proofs.serve.serve_session.Statement.{statement}

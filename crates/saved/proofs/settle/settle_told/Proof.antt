@@ -3,8 +3,8 @@ use mathlib.Core.Path.{ap}
 use mathlib.Core.List.{List}
 use Prim.Native.Nat.{ℕ}
 use denote.Ref.{now}
-use Rattle.saved.specs.State.{kept}
-use Rattle.saved.specs.Answer.{spoken}
+use Rattle.loaded.specs.State.{kept}
+use Rattle.told.specs.Answer.{spoken}
 use Rattle.saved.specs.Settle.{told}
 use borrow.Author.Needs.{needs}
 use Rattle.saved.proofs.settle.settle_told.Statement.{statement}

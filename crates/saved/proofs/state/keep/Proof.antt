@@ -1,6 +1,6 @@
 -- `keep` meets its contract: one test. Assumes nothing.
 use mathlib.Core.Path.{sym, _∙_}
-use Rattle.saved.specs.State.{kept}
+use Rattle.loaded.specs.State.{kept}
 use borrow.Author.Needs.{needs}
 use Rattle.saved.proofs.state.keep.Statement.{statement}
 use Rattle.saved.proofs.state.keep.Tie as tie

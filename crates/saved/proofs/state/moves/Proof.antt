@@ -1,6 +1,6 @@
 -- `moves` meets its contract, test by test. Assumes nothing.
 use borrow.Author.Tests.{eq-eqb, ne-eqb, lt-leb, le-leb}
-use Rattle.saved.specs.State.{moves}
+use Rattle.loaded.specs.State.{moves}
 use Rattle.saved.proofs.state.moves.Statement.{statement}
 use Rattle.saved.proofs.state.moves.Tie as tie
 

@@ -1,7 +1,7 @@
 -- `round_trip` meets its contract: the fields of an endpoint are as narrow as their types, so that it is loaded as it was saved. Assumes nothing.
 use mathlib.Core.Path.{ap, _∙_}
-use Rattle.saved.specs.State.{load}
-use Rattle.saved.proofs.SavedLaws.{load-save}
+use Rattle.loaded.specs.State.{load}
+use Rattle.loaded.proofs.SavedLaws.{load-save}
 use borrow.Author.Needs.{needs}
 use Rattle.saved.proofs.state.round_trip.Statement.{statement}
 use Rattle.saved.proofs.state.round_trip.Tie as tie

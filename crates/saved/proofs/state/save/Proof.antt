@@ -1,7 +1,7 @@
 -- `save` meets its contract: 22 stores into 22 words leave the 22. Assumes nothing.
 use denote.Ref.{now}
 use Rattle.base.proofs.Lent.{all-stored}
-use Rattle.saved.specs.State.{save}
+use Rattle.loaded.specs.State.{save}
 use borrow.Author.Needs.{needs}
 use Rattle.saved.proofs.state.save.Statement.{statement}
 use Rattle.saved.proofs.state.save.Tie as tie

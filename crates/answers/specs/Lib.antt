@@ -1,2 +1,0 @@
--- The lines that answers are written as.
-pub mod Text

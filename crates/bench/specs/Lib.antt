@@ -1,0 +1,3 @@
+-- What the contracts of `bench` cite.
+pub mod Bench
+pub mod Walk

@@ -1,2 +1,0 @@
--- What the contracts of `completion` cite beside the definitions of the dock.
-pub mod Parts

@@ -1,0 +1,2 @@
+-- The laws of `loaded`.
+pub mod SavedLaws

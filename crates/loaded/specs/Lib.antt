@@ -1,0 +1,2 @@
+-- What the contracts of `loaded` cite.
+pub mod State

@@ -1,0 +1,3 @@
+-- The laws of `page`.
+pub mod PageLaws
+pub mod TextLaws

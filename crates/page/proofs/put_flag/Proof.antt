@@ -1,0 +1,26 @@
+-- `put_flag` meets its contract. Assumes nothing.
+use mathlib.Core.Path.{ap, _∙_}
+use Rattle.page.specs.Page.{Page, put, putAll, flagField}
+use borrow.Author.Needs.{needs}
+use Rattle.page.proofs.put_flag.Statement.{statement}
+use Rattle.page.proofs.put_flag.Tie as tie
+
+returns : tie.Need-returns
+unfolding putAll flagField
+returns c = rw (c .before .before .before .before .if1 .taken) (c .before .before .put2 .ensures ∙ ap (λ (p : Page). put p 49) (c .before .before .before .before .before .before .before .put .ensures))
+
+returns-2 : tie.Need-returns-2
+unfolding putAll flagField
+returns-2 c = rw (c .before .before .before .before .if1 .left) (c .before .before .put3 .ensures ∙ ap (λ (p : Page). put p 48) (c .before .before .before .before .before .before .before .put .ensures))
+
+pub put-flag-spec : {M : Type 1} → statement M
+put-flag-spec =
+    tie.close
+    (tie.spec
+    (λ c κs. search needs)
+    (λ c κs. search needs)
+    (λ c. search needs)
+    returns
+    (λ c κs. search needs)
+    (λ c. search needs)
+    returns-2)

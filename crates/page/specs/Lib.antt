@@ -1,0 +1,2 @@
+-- What the contracts of `page` cite.
+pub mod Page

@@ -1,0 +1,22 @@
+-- `put_failed` meets its contract. Assumes nothing.
+use Rattle.page.proofs.PageLaws.{then}
+use Rattle.phrases.specs.Text.{failedLine}
+use borrow.Author.Needs.{needs}
+use Rattle.phrases.proofs.put_failed.Statement.{statement}
+use Rattle.phrases.proofs.put_failed.Tie as tie
+
+returns : tie.Need-returns
+unfolding failedLine
+returns c = then _ _ _ (c .before .before .before .before .before .before .before .before .before .before .before .before .before .before .put-text .ensures) (then _ _ _ (c .before .before .before .before .before .before .before .before .before .before .put-decimal .ensures) (then _ _ _ (c .before .before .before .before .before .before .put-decimal2 .ensures) (c .before .before .put-end .ensures)))
+
+pub put-failed-spec : {M : Type 1} → statement M
+put-failed-spec =
+    tie.close
+    (tie.spec
+    (λ c. search needs)
+    (λ c κs. search needs)
+    (λ c κs. search needs)
+    (λ c κs. search needs)
+    (λ c κs. search needs)
+    (λ c. search needs)
+    returns)

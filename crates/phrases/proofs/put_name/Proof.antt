@@ -1,0 +1,13 @@
+-- `put_name` meets its contract. Assumes nothing.
+use Rattle.page.proofs.PageLaws.{then}
+use Rattle.phrases.specs.Text.{wordLine}
+use borrow.Author.Needs.{needs}
+use Rattle.phrases.proofs.put_name.Statement.{statement}
+use Rattle.phrases.proofs.put_name.Tie as tie
+
+returns : tie.Need-returns
+unfolding wordLine
+returns c = then _ _ _ (c .before .before .before .before .before .before .put-text .ensures) (c .before .before .put-end .ensures)
+
+pub put-name-spec : {M : Type 1} → statement M
+put-name-spec = tie.close (tie.spec (λ c κs. search needs) (λ c κs. search needs) (λ c. search needs) returns)

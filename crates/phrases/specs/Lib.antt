@@ -1,0 +1,2 @@
+-- What the contracts of `phrases` cite.
+pub mod Text

@@ -1,0 +1,62 @@
+-- `reclaiming::reclaim_at` meets its contract, by the record's state. Assumes nothing.
+use Prim.Native.Nat.{_+_, _<_, _≤_}
+use mathlib.Core.Path.{ap, _∙_, _≡_}
+use borrow.Author.Needs.{needs}
+use borrow.Author.Tests.{eq-eqb, ne-eqb}
+use Rattle.packets.specs.Packets.{packetCount}
+use Rattle.records.specs.Records.{isoch}
+use Rattle.records.specs.declared.Record.{Record}
+use Rattle.refusal.specs.Misplaced.{misplaced}
+use Rattle.reclaiming.specs.Parts.{reclaimAt}
+use Rattle.refusal.proofs.CallLaws.{well-placed}
+use Rattle.reclaiming.proofs.reclaim_at.Statement.{statement}
+use Rattle.reclaiming.proofs.reclaim_at.Tie as tie
+
+-- The record is in flight, and not misplaced.
+flying : (c : tie.Then2)
+    → let v : Record = c .before .before .before .before .record-at .result in
+    (v .place + 1 < c .before .before .before .before .before .before .before .before .before .args .e .shape .slots) × (v .kind ≡ isoch → v .count ≤ packetCount)
+flying c =
+    let slots = c .before .before .before .before .before .before .before .before .before .args .e .shape .slots in
+    well-placed slots (c .before .before .before .before .record-at .result)
+    (ap (misplaced slots) (c .before .before .before .before .record-at .ensures) ∙ c .before .before .before .before .before .before .before .before .before .pre .2)
+    (c .if2 .taken)
+
+returns : tie.Need-returns
+unfolding reclaimAt
+returns c = simp (← c .before .before .before .record-at .ensures, eq-eqb _ _ (c .before .if1 .taken), c .left .ensures)
+
+reclaim-flying-requires : tie.Need-reclaim-flying-requires
+reclaim-flying-requires c κs =
+    let s = c .before .before .before .before .before .before .before .before .before .before .before .pre .0 in
+    let f = flying (c .before .before) in
+    let h = c .before .before .before .before .before .before .before .before .before .before .before .pre .1 in (
+      record { three = s .three; most = s .most; table = s .table; place = f .0; held = h },
+      s .words,
+      s .row,
+      f .1,
+    )
+
+returns-2 : tie.Need-returns-2
+unfolding reclaimAt
+returns-2 c = simp (← c .before .before .before .before .before .before .before .before .before .before .before .record-at .ensures, ne-eqb _ _ (c .before .before .before .before .before .before .before .before .before .if1 .left), eq-eqb _ _ (c .before .before .before .before .before .before .before .if2 .taken)) (c .before .before .before .before .reclaim-flying .ensures)
+
+returns-3 : tie.Need-returns-3
+unfolding reclaimAt
+returns-3 c = simp (← c .before .before .before .before .before .record-at .ensures, ne-eqb _ _ (c .before .before .before .if1 .left), ne-eqb _ _ (c .before .if2 .left), c .unfinished .ensures)
+
+pub reclaim-at-spec : {M : Type 1} → statement M
+reclaim-at-spec =
+    tie.close
+    (tie.spec
+    (λ c κs. search needs)
+    (λ c κs. search needs)
+    (λ c. search needs)
+    returns
+    reclaim-flying-requires
+    (λ c. search needs)
+    (λ c. search needs)
+    returns-2
+    (λ c κs. search needs)
+    (λ c. search needs)
+    returns-3)

@@ -1,0 +1,78 @@
+-- `reclaiming::reclaim_request` meets its contract: refused with the tables as they are, or the record that is found is reclaimed. Assumes nothing.
+use mathlib.Core.Bool.{false}
+use mathlib.Core.Path.{sym, ap, _∙_, _≡_}
+use borrow.Author.Needs.{needs}
+use borrow.Author.Tests.{ne-eqb}
+use denote.Ref.{now}
+use lib.ListN.{length}
+use Rattle.dock.specs.Reclaim.{badRecord, reclaimNo, reclaimFound, reclaim}
+use Rattle.dock.specs.declared.ReclaimedOne.{ReclaimedOne}
+use Rattle.ids.specs.Lookup.{findIn}
+use Rattle.reclaiming.specs.Parts.{reclaimAt}
+use Rattle.refusal.proofs.CallLaws.{found-within, bad-found, reclaimable}
+use Rattle.ids.specs.declared.Lookup.{Lookup}
+use Rattle.refusal.specs.Sizes.{Sizes}
+use Rattle.reclaiming.proofs.reclaim_request.Statement.{statement}
+use Rattle.reclaiming.proofs.reclaim_request.Tie as tie
+
+-- Past the test there is no refusal, and so what the reclaim of a record needs.
+none : (c : tie.Else1)
+    → let a = c .before .before .before .before .before .before .args in
+    reclaimNo (a .e) (length (now (a .finished))) (now (a .records)) (length (now (a .packets))) (a .id) ≡ 0
+none c = sym (c .before .reclaim-no .ensures) ∙ c .if1 .left
+
+ok : (c : tie.Else1)
+    → let a = c .before .before .before .before .before .before .args in
+    (Sizes (a .e .shape .slots) (length (now (a .finished))) (length (now (a .records))) (length (now (a .packets))))
+    × (badRecord (a .e) (now (a .records)) (findIn (now (a .records)) (a .e .account .occupancy) (a .id)) ≡ false)
+ok c = reclaimable _ _ _ _ _ (none c)
+
+returns : tie.Need-returns
+unfolding reclaim
+returns c = simp (← c .before .reclaim-no .ensures, ne-eqb _ _ (c .if1 .taken))
+
+find-id-requires : tie.Need-find-id-requires
+find-id-requires c κs = ok (c .before) .0 .words
+
+reclaim-at-requires : tie.Need-reclaim-at-requires
+reclaim-at-requires c κs =
+    let a = c .before .before .before .before .before .before .before .before .before .before .before .before .before .args in
+    let told = (sym (c .before .before .before .found .given .1) ∙ c .before .before .before .before .before .find-id .ensures) in (
+      ok (c .before .before .before .before .before .before .before) .0,
+      found-within (now (a .records)) (a .e .account .occupancy) (a .id) _ told,
+      bad-found (a .e) (now (a .records)) _ ∙ ap (badRecord (a .e) (now (a .records))) told ∙ ok (c .before .before .before .before .before .before .before) .1,
+    )
+
+returns-2 : tie.Need-returns-2
+unfolding reclaim
+returns-2 c =
+    let a = c .before .before .before .before .before .before .before .before .before .before .before .args in
+    simp (none (c .before .before .before .before .before))
+    (ap (λ (x : ReclaimedOne). (x, now (a .records), now (a .packets))) (c .unfinished .ensures)
+    ∙ ap (λ (x : Lookup). reclaimFound x (a .e) (now (a .finished)) (now (a .records)) (now (a .packets))) (sym (c .before .enum-told .given .1) ∙ c .before .before .before .find-id .ensures))
+
+returns-3 : tie.Need-returns-3
+unfolding reclaim reclaimAt
+returns-3 c =
+    let a = c .before .before .before .before .before .before .before .before .before .before .before .before .before .before .before .before .before .before .args in
+    simp (none (c .before .before .before .before .before .before .before .before .before .before .before .before))
+    (c .before .before .before .before .reclaim-at .ensures
+    ∙ ap (λ (x : Lookup). reclaimFound x (a .e) (now (a .finished)) (now (a .records)) (now (a .packets))) (sym (c .before .before .before .before .before .before .before .before .found .given .1) ∙ c .before .before .before .before .before .before .before .before .before .before .find-id .ensures))
+
+pub reclaim-request-spec : {M : Type 1} → statement M
+reclaim-request-spec =
+    tie.close
+    (tie.spec
+    (λ c κs. search needs)
+    (λ c. search needs)
+    returns
+    find-id-requires
+    (λ c. search needs)
+    (λ c κs. search needs)
+    (λ c. search needs)
+    reclaim-at-requires
+    (λ c. search needs)
+    returns-2
+    (λ c. search needs)
+    (λ c. search needs)
+    returns-3)

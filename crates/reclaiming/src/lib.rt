@@ -1,0 +1,106 @@
+// The reclaim of a held record: a stopped one is given back, one in flight is looked at by its kind.
+ghost use Prim.Native.Nat.{_*_};
+ghost use Rattle.dock.specs.Reclaim.{reclaim};
+use ids::Lookup;
+ghost use mathlib.Core.Path.{_≡_};
+ghost use mathlib.Core.Bool.{false};
+ghost use Prim.Native.Nat.{_*_, _≤_, _<_};
+ghost use lib.ListN.{length};
+ghost use Rattle.ids.specs.Free.{recordCount, recordWords};
+ghost use Rattle.packets.specs.Packets.{packetCount};
+ghost use Rattle.records.specs.Records.{isoch, recordAt};
+ghost use Rattle.dock.specs.Reclaim.{reclaimFlying};
+ghost use Rattle.completing.specs.Flying.{Flying};
+ghost use Rattle.refusal.specs.Sizes.{Sizes};
+ghost use Rattle.refusal.specs.Misplaced.{misplaced};
+ghost use Rattle.reclaiming.specs.Parts.{reclaimAt};
+use stages::bulk::reclaim_bulk;
+use stages::control::reclaim_control;
+use checks::BULK;
+use checks::CONTROL;
+use checks::INTERRUPT;
+use checks::ISOCH;
+use dock::Endpoint;
+use dock::Reclaimed;
+use dock::ReclaimedOne;
+use records::IN_FLIGHT;
+use records::Record;
+use records::STOPPED;
+use walk::reclaim_iso;
+use completing::left;
+use completing::unfinished;
+
+// A record in flight, by its kind; a kind that is none never finishes.
+fn reclaim_flying(
+    e: Endpoint,
+    finished: &[u32],
+    records: &mut [u64],
+    packets: &mut [u64],
+    v: Record,
+    number: usize,
+) -> ReclaimedOne
+    requires { ⌜ (Flying (e .shape .slots) (length (now finished)) v number) × (length (now records) ≡ recordCount * recordWords) × (length (now packets) ≡ recordCount * packetCount) × (v .kind ≡ isoch → v .count ≤ packetCount) ⌝ }
+    ensures { λ r. ⌜ (r, now (records .exit), now (packets .exit)) ≡ reclaimFlying e (now (finished .entry)) (now (records .entry)) (now (packets .entry)) v number ⌝ }
+{
+    if v.kind == CONTROL {
+        return reclaim_control(e, finished, records, v, number);
+    }
+    if v.kind == ISOCH {
+        return reclaim_iso(e, finished, packets, v, number);
+    }
+    if v.kind == BULK {
+        return reclaim_bulk(e, finished, v, number);
+    }
+    if v.kind == INTERRUPT {
+        return reclaim_bulk(e, finished, v, number);
+    }
+    unfinished(e)
+}
+
+// Record r, by its state. A stopped one's TRBs left flight when it was retired.
+fn reclaim_at(
+    e: Endpoint,
+    finished: &[u32],
+    records: &mut [u64],
+    packets: &mut [u64],
+    r: usize,
+) -> ReclaimedOne
+    requires { ⌜ (Sizes (e .shape .slots) (length (now finished)) (length (now records)) (length (now packets))) × (r < recordCount) × (misplaced (e .shape .slots) (recordAt (now records) r) ≡ false) ⌝ }
+    ensures { λ o. ⌜ (o, now (records .exit), now (packets .exit)) ≡ reclaimAt r e (now (finished .entry)) (now (records .entry)) (now (packets .entry)) ⌝ }
+{
+    let v = records::record_at(records, r);
+    if v.state == STOPPED {
+        return ReclaimedOne {
+            answer: Reclaimed::Cancelled,
+            endpoint: left(e, r, 0, false),
+        };
+    }
+    if v.state == IN_FLIGHT {
+        return reclaim_flying(e, finished, records, packets, v, r);
+    }
+    unfinished(e)
+}
+
+// A request is reclaimed by its id.
+pub fn reclaim_request(
+    e: Endpoint,
+    finished: &[u32],
+    records: &mut [u64],
+    packets: &mut [u64],
+    id: u64,
+) -> ReclaimedOne
+    ensures { λ r. ⌜ (r, now (records .exit), now (packets .exit)) ≡ reclaim e (now (finished .entry)) (now (records .entry)) (now (packets .entry)) id ⌝ }
+{
+    let no = refusal::reclaim_no(e, finished.len(), records, packets.len(), id);
+    if no != 0 {
+        return ReclaimedOne {
+            answer: Reclaimed::Refused(no),
+            endpoint: e,
+        };
+    }
+    let found = ids::find_id(records, e.account.occupancy, id);
+    match found {
+        Lookup::Nothing => completing::unfinished(e),
+        Lookup::At(r) => reclaim_at(e, finished, records, packets, r),
+    }
+}

@@ -1,0 +1,3 @@
+-- The laws of `sweeping`.
+pub mod LentArray
+pub mod Machine

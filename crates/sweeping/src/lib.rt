@@ -1,0 +1,35 @@
+// Packet records walked and marked in place, in the lent table: the walk of `marking`, turn by turn, over a block of a slice of packets.
+ghost use mathlib.Core.Path.{_≡_};
+ghost use Prim.Native.Nat.{_<_};
+ghost use Rattle.marking.specs.Marking.{walked};
+use packets::PACKETS;
+use marking::Block;
+use marking::Marked;
+use marking::Standing;
+use packets::Packet;
+
+// The loop: each packet is taken, turned and put back, until the walk stands at its end.
+pub fn mark_packets(packets: &mut [Packet], finished: &[u32], b: Block) -> Standing
+    ensures { λ r. ⌜ (now (packets .exit) ≡ walked (now (packets .entry)) (now (finished .entry)) b .packets) × (r ≡ walked (now (packets .entry)) (now (finished .entry)) b .standing) ⌝ }
+{
+    let mut s = marking::begin(packets.len(), finished.len(), b);
+    while s.at < s.end {
+        let at = s.at;
+        let t = marking::turn(packets[at], finished, s);
+        packets[at] = t.packet;
+        s = t.standing;
+    }
+    s
+}
+
+// The same over packets by value: they are lent from a local.
+pub fn marked_block(packets: [Packet; PACKETS], finished: &[u32], b: Block) -> Marked
+    ensures { λ r. ⌜ (r .packets ≡ walked packets (now (finished .entry)) b .packets) × (r .standing ≡ walked packets (now (finished .entry)) b .standing) ⌝ }
+{
+    let mut held = packets;
+    let standing = mark_packets(&mut held, finished, b);
+    Marked {
+        packets: held,
+        standing,
+    }
+}

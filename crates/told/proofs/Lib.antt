@@ -1,0 +1,2 @@
+-- The laws of `told`.
+pub mod RequestLaws

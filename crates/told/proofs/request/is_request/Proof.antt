@@ -1,0 +1,17 @@
+-- `is_request` meets its contract, test by test. Assumes nothing.
+use borrow.Author.Tests.{eq-eqb, ne-eqb}
+use Rattle.told.specs.Request.{isRequest}
+use borrow.Author.Needs.{needs}
+use Rattle.told.proofs.request.is_request.Statement.{statement}
+use Rattle.told.proofs.request.is_request.Tie as tie
+
+returns : tie.Need-returns
+unfolding isRequest
+returns c = simp (ne-eqb _ _ (c .if1 .taken))
+
+returns-2 : tie.Need-returns-2
+unfolding isRequest
+returns-2 c = simp (eq-eqb _ _ (c .before .if1 .left))
+
+pub is-request-spec : {M : Type 1} → statement M
+is-request-spec = tie.close (tie.spec returns (λ c. search needs) returns-2)

@@ -1,0 +1,3 @@
+-- What the contracts of `told` cite.
+pub mod Answer
+pub mod Request

@@ -1,0 +1,2 @@
+-- What the contracts of `values` cite.
+pub mod Values

@@ -1,0 +1,56 @@
+-- The values of a line, as the calls take them. The reader has seen to it that each is of its kind, so that nothing is cut here.
+use Prim.Native.Nat.{ℕ, _-_, _%_, _^_}
+use mathlib.Core.Bool.{Bool, _&&_}
+use mathlib.Core.List.{List, []}
+use lib.Dec.{eqb, leb, ltb}
+use lib.ListN.{length, getD, take, drop}
+use Rattle.base.specs.First.{pick}
+use Rattle.trb.specs.declared.Words.{Words}
+use Rattle.dock.specs.declared.Request.{Request}
+use Rattle.dock.specs.declared.Request.the-variants.{Control, Bulk, Interrupt, Isoch}
+use Rattle.words.specs.Words.{ringWord, controlWord, isoWord, interruptWord}
+use Rattle.lines.specs.declared.Reading.{Reading}
+use Rattle.values.specs.declared.Opening.{Opening}
+use Rattle.values.specs.declared.Opening.the-variants as opening
+
+abbrev pub value : List ℕ → ℕ → ℕ
+value values i = getD values i 0
+
+abbrev pub byte : ℕ → ℕ
+byte v = v % 2 ^ 8
+
+abbrev pub half : ℕ → ℕ
+half v = v % 2 ^ 16
+
+abbrev pub word : ℕ → ℕ
+word v = v % 2 ^ 32
+
+abbrev pub flagged : ℕ → Bool
+flagged v = eqb v 1
+
+-- "`control` gives request type, request, value, index, address, length; `bulk` in, address, length; `iso` the same, then the packet lengths."
+unfoldable pub requestOf : ℕ → List ℕ → Request
+requestOf name values =
+    let a = value values 0 in
+    let b = value values 1 in
+    let c = value values 2 in
+    pick (eqb name controlWord)
+    (Control (byte a) (byte b) (half c) (half (value values 3)) (value values 4) (value values 5))
+    (pick (eqb name isoWord) (Isoch (flagged a) b c)
+    (pick (eqb name interruptWord) (Interrupt (flagged a) b c) (Bulk (flagged a) b c)))
+
+-- The packet lengths, of which `count` less three are there.
+unfoldable pub lengthsOf : ℕ → List ℕ → ℕ → List ℕ
+lengthsOf name values count =
+    pick (eqb name isoWord && (leb 3 count && leb count (length values))) (take (count - 3) (drop 3 values)) []
+
+unfoldable pub eventOf : List ℕ → Words
+eventOf values =
+    record { w0 = word (value values 0); w1 = word (value values 1); w2 = word (value values 2); w3 = word (value values 3) }
+
+-- A line with no ring made: it makes one, of at most so many slots ("else 13"), or it is bad.
+unfoldable pub openingOf : Reading → List ℕ → ℕ → Opening
+openingOf r values most =
+    pick (r .good && (eqb (r .before) 0 && eqb (r .word) ringWord))
+    (pick (ltb most (value values 0)) opening.TooLarge opening.Ring)
+    opening.Bad
