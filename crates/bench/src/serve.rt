@@ -2,10 +2,10 @@
 ghost use mathlib.Core.Path.{_≡_};
 ghost use Rattle.bench.specs.Bench.{poked, servePoke, isTool, serveSlot, serveTools};
 use crate::tools;
+use dock::Endpoint;
 use values::Next;
 use values::Turn;
 use values::value;
-use dock::Endpoint;
 
 fn poked(done: bool) -> Next
     ensures { λ r. ⌜ r ≡ poked done ⌝ }
@@ -97,7 +97,14 @@ fn serve_slot(e: Endpoint, ring: &[u32], index: u64, out: &mut [u8], at: usize) 
     }
 }
 
-pub fn serve_tools(e: Endpoint, ring: &[u32], w: u64, values: &[u64], out: &mut [u8], at: usize) -> Turn
+pub fn serve_tools(
+    e: Endpoint,
+    ring: &[u32],
+    w: u64,
+    values: &[u64],
+    out: &mut [u8],
+    at: usize,
+) -> Turn
     ensures { λ s. ⌜ (s, now (out .exit)) ≡ serveTools e (now (ring .entry)) w (now (values .entry)) (at, now (out .entry)) ⌝ }
 {
     let first = value(values, 0);

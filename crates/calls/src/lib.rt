@@ -5,12 +5,12 @@ ghost use Rattle.values.specs.Values.{value, byte, half};
 ghost use Rattle.calls.specs.Calls.{configured, ended, stopped, resumed, pointed, reset, handed, cancelled, retired, reclaimed, begun};
 ghost use Rattle.calls.specs.Calls.{goesOn, storedOne, stores, asked, submitted};
 use dock::Changed;
-use values::Next;
-use values::Turn;
 use dock::Endpoint;
 use dock::Outcome;
 use dock::Request;
 use dock::Stored;
+use values::Next;
+use values::Turn;
 
 // What a store leaves, and whether more are to come.
 pub struct StoreTurn {

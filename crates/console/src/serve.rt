@@ -2,11 +2,11 @@
 ghost use mathlib.Core.Path.{_≡_};
 ghost use Rattle.console.specs.Serve.{serveNamed, isCall, serveCalls};
 ghost use Rattle.console.specs.Serve.{serveSession, serveAlone, serve, isStep};
+use dock::Endpoint;
+use lines::Reading;
 use values::Next;
 use values::Turn;
 use values::value;
-use dock::Endpoint;
-use lines::Reading;
 
 // `begin` or `whole`, and a request.
 fn serve_named(

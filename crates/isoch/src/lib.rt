@@ -7,11 +7,11 @@ ghost use Rattle.bursts.specs.Bursts.{burstsOf};
 ghost use Rattle.packets.specs.Packets.{packetCount};
 ghost use Rattle.dock.specs.Start.{atLeastOne};
 ghost use Rattle.isoch.specs.Packed.{packetTrb, packetPut, allPut};
-use striding::put;
+use bursts::Bursts;
 use dock::Periodic;
 use dock::Shape;
 use ring::Position;
-use bursts::Bursts;
+use striding::put;
 use trb::Trb;
 
 // Where an ISO submission stands: the producer's position, the running address and the next frame number.

@@ -334,7 +334,16 @@ fn attend(
         };
     }
     let t = serve_in(
-        e, ring, finished, size, records, packets, line, values, out, at,
+        e,
+        ring,
+        finished,
+        size,
+        records,
+        packets,
+        line,
+        values,
+        out,
+        at,
     );
     served(c, t, number, out)
 }
@@ -355,13 +364,33 @@ fn turn(
 ) -> Left {
     if !bench.made {
         return open(
-            bench, ring, finished, records, packets, line, number, values, out, at, most,
+            bench,
+            ring,
+            finished,
+            records,
+            packets,
+            line,
+            number,
+            values,
+            out,
+            at,
+            most,
         );
     }
     let e = bench.e;
     let c = bench.c;
     attend(
-        e, c, ring, finished, records, packets, line, number, values, out, at,
+        e,
+        c,
+        ring,
+        finished,
+        records,
+        packets,
+        line,
+        number,
+        values,
+        out,
+        at,
     )
 }
 
@@ -398,7 +427,17 @@ pub fn run(
             break;
         }
         let l = turn(
-            bench, ring, finished, records, packets, g.line, place.line, values, out, page, most,
+            bench,
+            ring,
+            finished,
+            records,
+            packets,
+            g.line,
+            place.line,
+            values,
+            out,
+            page,
+            most,
         );
         bench = l.bench;
         page = relieve(out, l.page);

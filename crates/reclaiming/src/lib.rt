@@ -14,21 +14,21 @@ ghost use Rattle.completing.specs.Flying.{Flying};
 ghost use Rattle.refusal.specs.Sizes.{Sizes};
 ghost use Rattle.refusal.specs.Misplaced.{misplaced};
 ghost use Rattle.reclaiming.specs.Parts.{reclaimAt};
-use stages::bulk::reclaim_bulk;
-use stages::control::reclaim_control;
 use checks::BULK;
 use checks::CONTROL;
 use checks::INTERRUPT;
 use checks::ISOCH;
+use completing::left;
+use completing::unfinished;
 use dock::Endpoint;
 use dock::Reclaimed;
 use dock::ReclaimedOne;
 use records::IN_FLIGHT;
 use records::Record;
 use records::STOPPED;
+use stages::bulk::reclaim_bulk;
+use stages::control::reclaim_control;
 use walk::reclaim_iso;
-use completing::left;
-use completing::unfinished;
 
 // A record in flight, by its kind; a kind that is none never finishes.
 fn reclaim_flying(

@@ -16,10 +16,10 @@ use checks::ISOCH;
 use checks::PACKETS_SIZE;
 use dock::Endpoint;
 use ids::Lookup;
-use ring::Slot;
 use packets::PACKETS;
 use records::IN_FLIGHT;
 use records::Record;
+use ring::Slot;
 use trb::Words;
 
 // ---- an event that is handed over

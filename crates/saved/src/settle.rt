@@ -4,12 +4,12 @@ ghost use lib.ListN.{length};
 ghost use Rattle.loaded.specs.State.{stateWords};
 ghost use Rattle.told.specs.Answer.{answerWords};
 ghost use Rattle.saved.specs.Settle.{numbered, told};
-use told::answer::Told;
-use told::answer::outcome;
-use told::answer::tell;
 use crate::state::keep;
 use dock::Changed;
 use dock::Endpoint;
+use told::answer::Told;
+use told::answer::outcome;
+use told::answer::tell;
 
 // Of a call that tells its number only.
 pub fn settle(state: &mut [u64], c: Changed) -> u32

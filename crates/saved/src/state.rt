@@ -3,7 +3,6 @@ ghost use mathlib.Core.Path.{_≡_};
 ghost use lib.ListN.{length};
 ghost use lib.Seq.{sets};
 ghost use Rattle.loaded.specs.State.{stateWords, load, save, moves, kept, frontWords, middleWords, backWords, Narrow};
-use told::answer::bit;
 use dock::Account;
 use dock::Endpoint;
 use dock::Flags;
@@ -12,6 +11,7 @@ use dock::Periodic;
 use dock::Shape;
 use dock::Work;
 use ring::Position;
+use told::answer::bit;
 
 // The words of an endpoint.
 pub const STATE_WORDS: usize = 22;

@@ -11,14 +11,14 @@ ghost use Rattle.packets.specs.Packets.{packetCount};
 ghost use Rattle.records.specs.Records.{isoch};
 ghost use Rattle.dock.specs.Start.{atLeastOne};
 ghost use Rattle.sending.specs.Sent.{ended, sentIsoch, plainPut, sentBy, Sendable};
-use striding::control;
-use isoch::Pen;
-use striding::put;
 use dock::Endpoint;
 use dock::StoredAll;
 use dock::Submitted;
-use ring::Position;
+use isoch::Pen;
 use records::Record;
+use ring::Position;
+use striding::control;
+use striding::put;
 
 // The end of a submission: nothing is under way.
 fn ended(e: Endpoint, id: u64, p: Position, frame: u16) -> StoredAll

@@ -5,13 +5,13 @@ ghost use Rattle.dock.specs.Reclaim.{bulkBy, reclaimBulk};
 ghost use Rattle.ids.specs.Free.{recordCount};
 ghost use Prim.Native.Nat.{_<_};
 ghost use Rattle.completing.specs.Flying.{Flying};
+use completing::completed;
+use completing::less;
+use completing::unfinished;
 use dock::Endpoint;
 use dock::ReclaimedOne;
 use finished::Finished;
 use records::Record;
-use completing::completed;
-use completing::less;
-use completing::unfinished;
 use worth::is_accepted;
 
 fn by_event(f: Finished, e: Endpoint, v: Record, number: usize) -> ReclaimedOne

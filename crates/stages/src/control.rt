@@ -10,14 +10,14 @@ ghost use Rattle.dock.specs.Reclaim.{stageBy, statusBy, recordedBy, recordedLen
 ghost use Rattle.completing.specs.Flying.{Flying};
 ghost use Rattle.stages.specs.Parts.{afterSetup};
 ghost use Rattle.stages.specs.Values.{seenOf};
+use completing::completed;
+use completing::less;
+use completing::unfinished;
 use dock::Endpoint;
 use dock::ReclaimedOne;
 use finished::Finished;
 use records::RECORDED;
 use records::Record;
-use completing::completed;
-use completing::less;
-use completing::unfinished;
 use worth::is_accepted;
 
 // A stage leaves the later ones to look at, or ends the request.

@@ -11,8 +11,8 @@ use dock::Endpoint;
 use dock::Stored;
 use dock::StoredOne;
 use dock::Work;
-use ring::Position;
 use records::Record;
+use ring::Position;
 
 // No submission under way.
 pub fn idle() -> Work

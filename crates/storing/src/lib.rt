@@ -53,7 +53,12 @@ fn store_link(e: Endpoint, v: Record, ring: &mut [u32]) -> StoredOne
     let p = e.at;
     let q = ring::next_index(ring, p, e.shape.base, false);
     let w = e.work;
-    let after = steps::moved(e, q, e.periodic.frame, steps::worked(w, w.stored, w.address));
+    let after = steps::moved(
+        e,
+        q,
+        e.periodic.frame,
+        steps::worked(w, w.stored, w.address),
+    );
     steps::concluded(after, v, p.place)
 }
 
@@ -78,7 +83,12 @@ fn store_setup(e: Endpoint, v: Record, ring: &mut [u32]) -> StoredOne
     let w = e.work;
     let place = w.place;
     ring::set_transfer_trb(ring, place, trbs::setup_trb(v), w.cycle);
-    let after = steps::moved(e, p, e.periodic.frame, steps::worked(w, w.stored + 1, w.address));
+    let after = steps::moved(
+        e,
+        p,
+        e.periodic.frame,
+        steps::worked(w, w.stored + 1, w.address),
+    );
     steps::concluded(after, v, place)
 }
 

@@ -5,8 +5,8 @@ ghost use lib.ListN.{length};
 ghost use Rattle.striding.specs.Controls.{stagesPut, controlPut};
 use crate::put;
 use dock::Shape;
-use ring::Position;
 use records::Record;
+use ring::Position;
 
 // Data where there is any, then status.
 fn put_stages(

@@ -2,10 +2,10 @@
 ghost use mathlib.Core.Path.{_≡_};
 ghost use Prim.Native.Nat.{_<_};
 ghost use Rattle.marking.specs.Marking.{walked};
-use packets::PACKETS;
 use marking::Block;
 use marking::Marked;
 use marking::Standing;
+use packets::PACKETS;
 use packets::Packet;
 
 // The loop: each packet is taken, turned and put back, until the walk stands at its end.

@@ -11,6 +11,8 @@ ghost use Rattle.marking.specs.Words.{sweptBy, keepOne, keepBelow};
 ghost use Rattle.completing.specs.Flying.{Flying};
 ghost use Rattle.walk.specs.Loaded.{loaded};
 ghost use Rattle.walk.specs.Values.{sweptOf};
+use completing::completed;
+use completing::unfinished;
 use dock::Endpoint;
 use dock::ReclaimedOne;
 use marking::Block;
@@ -20,8 +22,6 @@ use marking::Standing;
 use packets::PACKETS;
 use packets::Packet;
 use records::Record;
-use completing::completed;
-use completing::unfinished;
 
 // How a walk over packets ended: with nothing told yet, at a refused code, or at the last packet.
 pub enum Walk {
