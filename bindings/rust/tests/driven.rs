@@ -51,4 +51,4 @@ fn samples() {
 }
 
 /// Those programs, as far as the repository has them.
-const PROGRAMS: [&str; 3] = ["drive", "drive_sample", "replay"];
+const PROGRAMS: [&str; 1] = ["drive"];
