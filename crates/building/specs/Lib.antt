@@ -1,2 +1,2 @@
--- The definitions that the contracts of the calls' parts cite.
+-- What the contract of the whole submission cites beside the definition of the dock.
 pub mod Numbers

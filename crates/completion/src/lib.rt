@@ -1,8 +1,6 @@
-// The completion of requests: an event is handed over, a request is reclaimed by its id, or cancelled. Document 01, module 5 and row 11.
+// The completion of requests: an event is handed over, and a request is cancelled. Document 01, module 5 and row 11. (`reclaiming` has the reclaim.)
 //
-// An event goes to the place of the finished table that is its slot's, and stays there. A reclaim looks its request's places up: one event tells
-// a bulk or an interrupt request, up to three a control request, and one for each packet an isochronous one, whose packets are marked and
-// credited in the lent table. When a request is told, its record is freed and its TRBs leave flight.
+// An event goes to the place of the finished table that is its slot's, and stays there. A cancel marks its record; the completion then answers 7.
 //
 // Each call takes any endpoint, tables and numbers: it tests what it needs, and what it answers and leaves is its definition in `dock`.
 ghost use mathlib.Core.Path.{_≡_};

@@ -2,8 +2,8 @@
 //
 // A slice crosses as a pointer to its first element and its length. An endpoint is 22 words that the caller keeps and lends to each call, a
 // request is eight words, and an answer is document 01's number, which is returned, and, for the calls that have values to tell, nine words
-// (crate `saved` says which). Nothing is asked of the numbers: words of a wrong length and a request of no kind are answered 1, and any other
-// words are an endpoint or a request. A call that is refused leaves the endpoint's words as they are, even where a save would change them.
+// (crates `loaded` and `told` say which). Nothing is asked of the numbers: words of a wrong length and a request of no kind are answered 1, and any
+// other words are an endpoint or a request. A call that is refused leaves the endpoint's words as they are, even where a save would change them.
 //
 // Each function loads the endpoint, makes the call of its name, saves the endpoint and tells the answer; specs/Exported.antt says so, once each.
 ghost use mathlib.Core.Path.{_≡_};

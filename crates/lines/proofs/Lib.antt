@@ -1,3 +1,3 @@
--- Laws of the format: numbers, pages, and what the reader comes to.
+-- Laws of what the reader comes to.
 pub mod PickLaws
 pub mod ScanLaws

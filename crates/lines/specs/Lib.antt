@@ -1,2 +1,2 @@
--- The format of a session's lines: words, digits, the reader between two bytes, and what is written.
+-- The reader of a line between two of its bytes.
 pub mod Reader

@@ -1,9 +1,7 @@
-// Lines of text, as a session has them: reading a line's fields and writing lines.
-//
-// A line is read byte by byte, so that no line, no field and no number is too long: `reading` has the state between two bytes. `words` has the
-// words and the fields that each takes, `number` the digits, `page` writes.
-//
 // A line that is being read, byte by byte: `feed` takes one byte, `finish` the line's end, and `scan` the bytes that are there.
+//
+// So no line, no field and no number is too long. `Reading` is what is known between two bytes; the words and their fields are `words`', the digits
+// `digits`'.
 ghost use mathlib.Core.Path.{_≡_};
 ghost use lib.ListN.{drop};
 ghost use Rattle.lines.specs.Reader.{start, bad, letter, digit, keep, closeWord, closeNumber, close, opened, feed, complete, finish, scan};

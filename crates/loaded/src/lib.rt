@@ -1,4 +1,5 @@
-// An endpoint from its words.
+// An endpoint from its words, 22 of 64 bits, one a field. Any words are an endpoint: a field narrower than its word is read modulo its width, and a flag
+// is set by any word but 0. specs/State.antt has the words, also as `saved` writes them.
 ghost use mathlib.Core.Path.{_≡_};
 ghost use lib.ListN.{length};
 ghost use Rattle.loaded.specs.State.{stateWords, load, positionOf, shapeOf, identityOf, periodicOf, accountOf, flagsOf, workOf, workAt};

@@ -1,9 +1,9 @@
-// The packets of an isochronous request are read and marked in place, in a lent table of packet records: any table, with the request's packets one
-// block of it, and every other packet left as it is. Document 01, "What a packet is worth".
+// The packets of an isochronous request, one turn of the walk at a time: any table of packet records, with the request's packets one block of it.
+// Document 01, "What a packet is worth".
 //
 // Where a walk stands is a record, by value. `turn` is the whole rule, for one packet: it marks it and says where to go on. The packets are passed
 // from the first to the last, until a code is refused or the last packet is found; then from the first on again, and those without an event count 0.
-// So a walk is at most two turns a packet. `mark_packets` is the loop alone, over the lent table; `marked_block` is the same for packets by value.
+// So a walk is at most two turns a packet. The loop over the lent table is `sweeping`'s.
 ghost use mathlib.Core.Path.{_≡_};
 ghost use Prim.Native.Nat.{_+_, _<_};
 ghost use lib.ListN.{length};

@@ -1,4 +1,10 @@
-// The reclaim of a held record: a stopped one is given back, one in flight is looked at by its kind.
+// The reclaim of a request by its id. Document 01, module 5 and rows 7 to 10.
+//
+// A stopped record is given back; one in flight is looked at by its kind: one event tells a bulk or an interrupt request, up to three a control
+// request, and one for each packet an isochronous one, whose packets are marked and credited in the lent table. When a request is told, its record is
+// freed and its TRBs leave flight.
+//
+// `reclaim_request` takes any endpoint, tables and numbers: it tests what it needs, and what it answers and leaves is its definition in `dock`.
 ghost use Prim.Native.Nat.{_*_};
 ghost use Rattle.dock.specs.Reclaim.{reclaim};
 use ids::Lookup;

@@ -1,2 +1,2 @@
--- The laws of the three tables.
+-- The laws of the request records.
 pub mod RecordLaws

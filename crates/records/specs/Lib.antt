@@ -1,2 +1,2 @@
--- The definitions that the contracts of `table` cite.
+-- The definitions that the contracts of `records` cite.
 pub mod Records

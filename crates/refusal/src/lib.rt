@@ -1,4 +1,4 @@
-// The refusals of the three calls, in document 01's order: one function a call, over tests that are functions of their own.
+// The refusals of hand over, cancel and reclaim, in document 01's order: one function a call, over tests that are functions of their own.
 ghost use mathlib.Core.Path.{_≡_};
 ghost use mathlib.Core.Bool.{_&&_};
 ghost use Prim.Native.Nat.{_*_};

@@ -1,4 +1,4 @@
 -- The laws of a whole submission.
-pub mod PutLaws
+pub mod KindLaws
 pub mod SentLaws
 pub mod StrideLaws

@@ -1,9 +1,7 @@
-// A whole submission's stores, TRB by TRB: each table is touched once, the position, the running address and the frame number are carried along,
-// and the endpoint is rebuilt once, at the end.
+// A whole submission's stores, by the kind of its request: each table is touched once, the position, the running address and the frame number are carried
+// along, and the endpoint is rebuilt once, at the end.
 //
 // `send` asks what the tests of a submission showed (`Sendable`); `submit_request` of the crate `building` calls it behind them.
-//
-// A whole submission's stores, by the kind of its request.
 ghost use mathlib.Core.Path.{_≡_};
 ghost use Prim.Native.Nat.{_+_, _*_, _≤_, _<_};
 ghost use lib.ListN.{length};

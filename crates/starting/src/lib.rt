@@ -1,8 +1,6 @@
-// The parts of a submission's start: what a request asks for, the refusals in order, and what an admitted one takes and writes.
-//
-// `start_no` takes any input. `begin` asks what the tests showed (`Admitted`); `start_request` of the crate `building` calls it behind them.
-//
 // What an admitted submission takes and writes: id, record and count, and the record's packets anew.
+//
+// `take` and `begin` ask what the tests of `admission` showed (`Admitted`); the calls of the crate `building` make them behind these tests.
 ghost use mathlib.Core.Path.{_≡_};
 ghost use Prim.Native.Nat.{_+_, _*_, _^_, _≤_, _<_};
 ghost use lib.ListN.{length};

@@ -1,9 +1,6 @@
-// The parts of a store: the TRBs of a request, and one store by what is next.
-//
-// `store_no`, `idle` and `at_least_one` take any input. `store_one` asks what the tests showed (`Ready`); `next_store` of the crate `building`
-// calls it behind them.
-//
 // One store of a submission: its refusals, and the store by what is next.
+//
+// `store_no` takes any input. `store_one` asks what the tests showed (`Ready`); `next_store` of the crate `building` calls it behind them.
 ghost use mathlib.Core.Path.{_≡_};
 ghost use mathlib.Core.Bool.{not, _&&_};
 ghost use Prim.Native.Nat.{_+_, _*_, _≤_, _<_};

@@ -1,4 +1,5 @@
-// Packet records walked and marked in place, in the lent table: the walk of `marking`, turn by turn, over a block of a slice of packets.
+// Packet records walked and marked in place, in the lent table: `mark_packets` is the loop alone, over the rule of `marking` (`begin`, `turn`), with every
+// packet outside the request's block left as it is; `marked_block` is the same for packets by value.
 ghost use mathlib.Core.Path.{_≡_};
 ghost use Prim.Native.Nat.{_<_};
 ghost use Rattle.marking.specs.Marking.{walked};

@@ -1,3 +1,4 @@
-// What crosses to C beside the endpoint: an answer as a number and words, and words as a request.
+// What crosses to C beside the endpoint: an answer is document 01's number, and its values in nine words, how many there are, then the values, then
+// zeros; a request is eight words, any of which are read modulo their width.
 pub mod answer;
 pub mod request;

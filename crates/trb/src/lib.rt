@@ -2,6 +2,7 @@
 //
 // A TRB is four words of 32 bits. This crate knows no endpoint and no ring, and has no function: `Trb` names the fields that a driver sets, and
 // specs/Layouts.antt has the layouts, field by field, with the standard's section numbers. specs/Cycle.antt has the standard's cycle rule.
+
 // The four words of a TRB or of an event.
 pub struct Words {
     pub w0: u32,

@@ -1,5 +1,5 @@
 // The reclaim of an isochronous request, over packets that are kept as words: they are read into packet records, which are walked and marked in place
-// (crate `marking`), and those that the walk has marked go back into their words. Then the total is the sum.
+// (crate `sweeping`), and those that the walk has marked go back into their words. Then the total is the sum.
 ghost use mathlib.Core.Path.{_≡_};
 ghost use Prim.Native.Nat.{_*_, _≤_, _<_};
 ghost use lib.ListN.{length, getD};

@@ -1,9 +1,4 @@
-// What a packet is worth, and what a request comes to. Document 01, "What a packet is worth", and rows 7 to 9.
-//
-// An event with a completion code counts for so many bytes, or its code is refused. A request that is told is completed: its record is freed, its
-// TRBs leave flight, and the answer is its length or the refusal.
-//
-// What a packet is worth: the bytes that an event with a completion code counts for. Document 01, "What a packet is worth".
+// What a packet is worth: the bytes that an event with a completion code counts for, or that its code is refused. Document 01, "What a packet is worth".
 ghost use mathlib.Core.Path.{_≡_};
 ghost use Rattle.dock.specs.Worth.{accepted, movedBytes, counts, worth};
 ghost use Rattle.worth.specs.Values.{worthOf};

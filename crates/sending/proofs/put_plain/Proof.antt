@@ -1,7 +1,7 @@
 -- `put_plain` meets its contract, by the kind. Assumes nothing.
 use mathlib.Core.Path.{_∙_}
 use denote.Ref.{now}
-use Rattle.sending.proofs.PutLaws.{plain-control, plain-other}
+use Rattle.sending.proofs.KindLaws.{plain-control, plain-other}
 use borrow.Author.Needs.{needs}
 use Rattle.sending.proofs.put_plain.Statement.{statement}
 use Rattle.sending.proofs.put_plain.Tie as tie

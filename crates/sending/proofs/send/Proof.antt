@@ -1,7 +1,7 @@
 -- `send` meets its contract, by the kind. Assumes nothing.
 use mathlib.Core.Path.{_∙_}
 use denote.Ref.{now}
-use Rattle.sending.proofs.PutLaws.{sent-isoch, sent-plain}
+use Rattle.sending.proofs.KindLaws.{sent-isoch, sent-plain}
 use borrow.Author.Needs.{needs}
 use Rattle.sending.proofs.send.Statement.{statement}
 use Rattle.sending.proofs.send.Tie as tie

@@ -1,6 +1,6 @@
 -- `send_isoch` meets its contract. Assumes nothing.
 use denote.Ref.{now}
-use Rattle.sending.proofs.PutLaws.{isoch-is}
+use Rattle.sending.proofs.KindLaws.{isoch-is}
 use borrow.Author.Needs.{needs}
 use Rattle.sending.proofs.send_isoch.Statement.{statement}
 use Rattle.sending.proofs.send_isoch.Tie as tie
