@@ -68,3 +68,11 @@ impl Run {
         bytes
     }
 }
+
+/// A run that nobody waits for any more does not go on: a slip may never end.
+impl Drop for Run {
+    fn drop(&mut self) {
+        let _ = self.child.kill();
+        let _ = self.child.wait();
+    }
+}
