@@ -1,7 +1,10 @@
 // The loop of a session or a drive: bytes are read from standard input and handed to the reader of lines, each line is served, and what stands on the
 // page is written, to the input's end or a bad line. What a line does is decided in `console::serve` and `values::opening_of`.
+mod input;
+
 ghost use Prim.Native.Nat.{_≤_};
 ghost use lib.ListN.{length};
+use crate::input::Input;
 use bench::tools;
 use console::serve;
 use controller::Consumer;
@@ -9,7 +12,6 @@ use dock::Changed;
 use dock::Endpoint;
 use dock::Outcome;
 use lines::Reading;
-use lines::Scanned;
 use values::Next;
 use values::Opening;
 use values::Turn;
@@ -28,117 +30,6 @@ pub const BYTES: usize = 65536;
 pub const VALUES: usize = 4098;
 
 pub const PAGE: usize = 393216;
-
-// The input: what was read of it and not yet looked at stands from `at` to `have`. `line` is the number of the line that was read last.
-pub struct Input {
-    pub at: usize,
-    pub have: usize,
-    pub line: u64,
-}
-
-// A line of the input, and whether there was one; and how many bytes stand on the page.
-pub struct Got {
-    pub some: bool,
-    pub line: Reading,
-    pub input: Input,
-    pub page: usize,
-}
-
-// What stands on the page is written.
-fn flush(out: &[u8], at: usize) -> usize {
-    if at <= out.len() {
-        io::write_all(libc::STDOUT_FILENO, &out[..at]);
-    }
-    0
-}
-
-// Where the input stands, and the page.
-pub struct Stand {
-    pub from: usize,
-    pub have: usize,
-    pub page: usize,
-}
-
-// More of the input, where all of what came is looked at. Before it is waited for, what stands on the page is written.
-fn more(bytes: &mut [u8], from: usize, have: usize, out: &[u8], page: usize) -> Stand {
-    if from < have {
-        return Stand { from, have, page };
-    }
-    let written = flush(out, page);
-    let got = libc::read(libc::STDIN_FILENO, bytes);
-    Stand {
-        from: 0,
-        have: io::count(got, bytes),
-        page: written,
-    }
-}
-
-// Reads on in what came.
-fn scan_to(bytes: &[u8], from: usize, have: usize, line: Reading, values: &mut [u64]) -> Scanned {
-    if bytes.len() < have {
-        return lines::scan(bytes, from, line, values);
-    }
-    lines::scan(&bytes[..have], from, line, values)
-}
-
-// The next line.
-fn next_line(
-    bytes: &mut [u8],
-    input: Input,
-    values: &mut [u64],
-    full: bool,
-    out: &[u8],
-    at: usize,
-) -> Got {
-    let number = std::num::wrapping_add_u64(input.line, 1);
-    let mut from = input.at;
-    let mut have = input.have;
-    let mut line = lines::start(full);
-    let mut some = false;
-    let mut page = at;
-    let mut turns = u64::MAX;
-    while 0 < turns {
-        turns -= 1;
-        let m = more(bytes, from, have, out, page);
-        from = m.from;
-        have = m.have;
-        page = m.page;
-        if have == 0 {
-            line = lines::finish(line, values);
-            return gotten(some, line, from, have, number, page);
-        }
-        let s = scan_to(bytes, from, have, line, values);
-        line = s.line;
-        some = true;
-        from = s.at;
-        if s.ended {
-            return gotten(some, line, from, have, number, page);
-        }
-    }
-    gotten(some, line, from, have, number, page)
-}
-
-fn gotten(some: bool, line: Reading, at: usize, have: usize, number: u64, page: usize) -> Got {
-    let input = Input {
-        at,
-        have,
-        line: number,
-    };
-    Got {
-        some,
-        line,
-        input,
-        page,
-    }
-}
-
-// A page on which much stands is written, so that the next line has room: a request writes some 3,100 bytes, and a drive's `step` at most 376,754.
-fn relieve(out: &[u8], at: usize) -> usize {
-    if at < 16384 {
-        return at;
-    }
-    flush(out, at)
-}
 
 // What stands between two lines: whether a ring is made, its endpoint, and the controller.
 pub struct Bench {
@@ -420,7 +311,7 @@ pub fn run(
     let mut turns = u64::MAX;
     while 0 < turns {
         turns -= 1;
-        let g = next_line(bytes, place, values, full, out, page);
+        let g = input::next_line(bytes, place, values, full, out, page);
         place = g.input;
         page = g.page;
         if !g.some {
@@ -440,10 +331,10 @@ pub fn run(
             most,
         );
         bench = l.bench;
-        page = relieve(out, l.page);
+        page = input::relieve(out, l.page);
         if l.over {
             break;
         }
     }
-    flush(out, page);
+    input::flush(out, page);
 }

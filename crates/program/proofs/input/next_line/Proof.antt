@@ -2,8 +2,8 @@
 use mathlib.Core.Path.{_≡_, refl, _∙_}
 use native.Mathlib.Omega.{arith}
 use lib.ListN.{length}
-use Rattle.program.proofs.next_line.Statement.{statement}
-use Rattle.program.proofs.next_line.Tie as tie
+use Rattle.program.proofs.input.next_line.Statement.{statement}
+use Rattle.program.proofs.input.next_line.Tie as tie
 
 abbrev Inv-loop : tie.InvT-loop
 Inv-loop bytes₀ values₀ full out at number from₀ have₀ line₀ some₀ page₀ turns₀ bytes values from have line some page turns = (length bytes ≡ length bytes₀) × (length values ≡ length values₀)

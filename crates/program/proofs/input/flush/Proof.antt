@@ -3,8 +3,8 @@ use mathlib.Core.Path.{sym}
 use native.Mathlib.Omega.{arith}
 use denote.Ref.{now}
 use lib.Seq.{length-take-le}
-use Rattle.program.proofs.flush.Statement.{statement}
-use Rattle.program.proofs.flush.Tie as tie
+use Rattle.program.proofs.input.flush.Statement.{statement}
+use Rattle.program.proofs.input.flush.Tie as tie
 
 slice-aggregate-write-all : tie.Need-slice-aggregate-write-all
 slice-aggregate-write-all c = sym (length-take-le (c .before .before .before .args .at) (now (c .before .before .before .args .out)) (omega arith))

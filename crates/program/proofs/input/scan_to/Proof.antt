@@ -3,8 +3,8 @@ use mathlib.Core.Path.{sym}
 use native.Mathlib.Omega.{arith}
 use denote.Ref.{now}
 use lib.Seq.{length-take-le}
-use Rattle.program.proofs.scan_to.Statement.{statement}
-use Rattle.program.proofs.scan_to.Tie as tie
+use Rattle.program.proofs.input.scan_to.Statement.{statement}
+use Rattle.program.proofs.input.scan_to.Tie as tie
 
 slice-aggregate-scan : tie.Need-slice-aggregate-scan
 slice-aggregate-scan c = sym (length-take-le (c .before .before .before .before .args .have) (now (c .before .before .before .before .args .bytes)) (omega arith))

@@ -1,6 +1,6 @@
 -- `more` is safe and ends. Assumes nothing.
-use Rattle.program.proofs.more.Statement.{statement}
-use Rattle.program.proofs.more.Tie as tie
+use Rattle.program.proofs.input.more.Statement.{statement}
+use Rattle.program.proofs.input.more.Tie as tie
 
 pub more-spec : {M : Type 1} → statement M
 more-spec =
