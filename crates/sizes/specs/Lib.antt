@@ -1,0 +1,2 @@
+-- The numbers of "What a dock may hold".
+pub mod Sizes
