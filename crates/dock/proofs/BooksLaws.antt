@@ -25,7 +25,7 @@ use Rattle.ids.proofs.AnyLaws.{after-last, after-more}
 use Rattle.ids.proofs.SearchLaws.{answer-other, answer-first}
 use Rattle.records.specs.Records.{inFlight, stopped, recordAt, recordList, setWord}
 use Rattle.records.specs.declared.Record.{Record}
-use Rattle.records.proofs.RecordLaws.{record-put, record-other, set-length}
+use Rattle.records.proofs.RecordLaws.{id-is, record-put, record-other, set-length}
 use Rattle.dock.specs.declared.Account.{Account}
 use Rattle.dock.specs.Limits.{recordsSize}
 use Rattle.dock.specs.Fit.{flies}
@@ -189,12 +189,10 @@ module _ (a : Account) (records : List ℕ) (r : ℕ) (v : Record) (within : r <
   other q d = record-other records r v fits q d
 
   id-here : idAt after r ≡ v .id
-  unfolding recordAt
-  id-here = ap (λ (x : Record). x .id) here
+  id-here = sym (id-is after r) ∙ ap (λ (x : Record). x .id) here
 
   id-other : (q : ℕ) → (q ≡ r → ⊥) → idAt after q ≡ idAt records q
-  unfolding recordAt
-  id-other q d = ap (λ (x : Record). x .id) (other q d)
+  id-other q d = sym (id-is after q) ∙ ap (λ (x : Record). x .id) (other q d) ∙ id-is records q
 
   sets : BitIs (bit (a .occupancy)) r 1 (bit (setBit (a .occupancy) r))
   sets = set-is (a .occupancy) r

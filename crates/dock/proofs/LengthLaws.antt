@@ -19,6 +19,7 @@ use Rattle.finished.specs.declared.Finished.the-variants as place
 use Rattle.packets.specs.Packets.{packetAt}
 use Rattle.records.specs.Records.{control, bulk, interrupt, isoch, inFlight, stopped, recordAt}
 use Rattle.records.specs.declared.Record.{Record}
+use Rattle.records.proofs.RecordLaws.{id-is}
 use Rattle.dock.specs.declared.Completion.{Completion}
 use Rattle.dock.specs.declared.Endpoint.{Endpoint}
 use Rattle.dock.specs.declared.Reclaimed.the-variants as answer
@@ -139,8 +140,7 @@ module _ {s : State} (h : Reached s) (id r : ℕ) (l : r < recordCount) (has : H
   reclaim-reports d = flying-reports (s .endpoint) (recordAt (s .records) r) r c (s .finished) (s .records) (s .packets) (answered d)
 
   pub reclaim-names : result .0 .answer ≡ answer.Done c → c .id ≡ id
-  unfolding recordAt
-  reclaim-names d = ap (λ (x : Completion). x .id) (reclaim-reports d .1) ∙ has .1
+  reclaim-names d = ap (λ (x : Completion). x .id) (reclaim-reports d .1) ∙ id-is (s .records) r ∙ has .1
 
   -- its length is at most the one asked for,
   pub reclaim-length : (recordAt (s .records) r .kind ≡ isoch → ⊥) → result .0 .answer ≡ answer.Done c → c .length ≤ recordAt (s .records) r .length

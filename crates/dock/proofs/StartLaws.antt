@@ -4,7 +4,7 @@ use Prim.Native.Nat.{ℕ, _+_, _-_, _*_, _^_, _<_, _≤_}
 use mathlib.Core.Bool.{false, _&&_, false≢true}
 use mathlib.Core.List.{List}
 use mathlib.Core.Logic.{⊎-elim}
-use mathlib.Core.Path.{_≡_, refl, sym}
+use mathlib.Core.Path.{_≡_, refl, sym, _∙_}
 use native.Mathlib.Omega.{arith}
 use borrow.Author.Tests.{not-false}
 use lib.Dec.{eqb}
@@ -22,7 +22,7 @@ use Rattle.ids.specs.Free.{recordCount, recordWords, isHeld, idAt}
 use Rattle.ids.specs.Order.{afterId}
 use Rattle.ids.proofs.SearchLaws.{answer-free, answer-other}
 use Rattle.records.specs.Records.{recordAt, recordList}
-use Rattle.records.proofs.RecordLaws.{record-put, record-other}
+use Rattle.records.proofs.RecordLaws.{id-is, record-put, record-other}
 use Rattle.dock.specs.declared.Endpoint.{Endpoint}
 use Rattle.dock.specs.declared.Request.{Request}
 use Rattle.dock.specs.Fit.{fitsWith}
@@ -89,9 +89,9 @@ module _ (e : Endpoint) (records packets : List ℕ) (request : Request) (length
   id-free small = answer-free recordCount (bit (e .account .occupancy)) (idAt records) (e .account .next) (omega arith) next-above small
 
   pub id-other : e .account .next < 2 ^ 64 → (r : ℕ) → r < recordCount → bit (e .account .occupancy) r ≡ 1 → idTaken e records ≡ recordAt records r .id → ⊥
-  unfolding idTaken recordAt
+  unfolding idTaken
   id-other small r l held q =
-      answer-other recordCount (bit (e .account .occupancy)) (idAt records) (e .account .next) (omega arith) next-above small r l held q
+      answer-other recordCount (bit (e .account .occupancy)) (idAt records) (e .account .next) (omega arith) next-above small r l held (q ∙ id-is records r)
 
   -- The record is the lowest that is free.
   pub record-below : recordTaken e < recordCount

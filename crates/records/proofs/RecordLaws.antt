@@ -4,72 +4,50 @@ use Prim.Native.Nat.{ℕ, _+_, _-_, _*_, _≤_, _<_}
 use mathlib.Core.Bool.{Bool, true, false}
 use mathlib.Core.List.{List}
 use mathlib.Core.Logic.{⊎-elim}
-use mathlib.Core.Path.{_≡_, refl, sym, _∙_}
+use mathlib.Core.Path.{_≡_, refl, sym, _∙_, ap}
 use native.Mathlib.Omega.{arith}
+use borrow.Author.Tests.{ltb-true}
+use lib.Dec.{ltb}
 use lib.ListN.{length, getD, take, drop, length-set}
 use lib.Seq.{getD-set-same, getD-set-other, getD-take, getD-drop}
 use Rattle.base.specs.Fields.{flag}
+use Rattle.base.specs.First.{pick}
 use Rattle.base.specs.Part.{put}
 use Rattle.base.proofs.Compare.{compared}
 use Rattle.base.proofs.Lent.{put-same, put-before, put-behind}
 use Rattle.ids.specs.Free.{recordWords, idAt}
-use Rattle.records.specs.Records.{wordAt, isSet, recordOf, recordAt, recordList, setWord}
+use Rattle.records.specs.Records.{wordAt, isSet, recordOf, partOf, recordAt, recordList, setWord}
 use Rattle.records.specs.declared.Record.{Record}
 
 -- ---- a record by its words
 
--- The record of a row of twelve words.
-abbrev made : (ℕ → ℕ) → Record
-made f =
-    record {
-      id = f 0;
-      kind = f 1;
-      incoming = isSet (f 2);
-      state = f 3;
-      cancelled = isSet (f 4);
-      address = f 5;
-      length = f 6;
-      setup = f 7;
-      place = f 8;
-      count = f 9;
-      given = f 10;
-      recorded = f 11;
-    }
+-- A row cut behind the words of a record says the same.
+abbrev cut : (ℕ → ℕ) → ℕ → ℕ
+cut f k = pick (ltb k recordWords) (f k) 0
 
--- A record says what its twelve words say, wherever they stand.
-same-record : (f g : ℕ → ℕ) → ((k : ℕ) → k < 12 → f k ≡ g k) → made f ≡ made g
-same-record f g e = λ i. record {
-  id = e 0 (omega arith) i;
-  kind = e 1 (omega arith) i;
-  incoming = isSet (e 2 (omega arith) i);
-  state = e 3 (omega arith) i;
-  cancelled = isSet (e 4 (omega arith) i);
-  address = e 5 (omega arith) i;
-  length = e 6 (omega arith) i;
-  setup = e 7 (omega arith) i;
-  place = e 8 (omega arith) i;
-  count = e 9 (omega arith) i;
-  given = e 10 (omega arith) i;
-  recorded = e 11 (omega arith) i;
-}
+cut-same : (f g : ℕ → ℕ) → ((k : ℕ) → k < recordWords → f k ≡ g k) → (k : ℕ) (b : Bool) → ltb k recordWords ≡ b → cut f k ≡ cut g k
+cut-same f g e k true h = rw h (e k (ltb-true _ _ h))
+cut-same f g e k false h = rw h
 
-by-words : (l : List ℕ) (r : ℕ) → recordAt l r ≡ made (wordAt l r)
+-- A record says what its words say, wherever they stand.
+same-record : (f g : ℕ → ℕ) → ((k : ℕ) → k < recordWords → f k ≡ g k) → recordOf f ≡ recordOf g
+same-record f g e = ap recordOf (λ i k. cut-same f g e k (ltb k recordWords) refl i)
+
+by-words : (l : List ℕ) (r : ℕ) → recordAt l r ≡ recordOf (wordAt l r)
 unfolding recordAt
-by-words l r =
-    let start : recordWords * r + 0 ≡ recordWords * r = omega arith in
-    rw start
+by-words l r = refl
 
 -- The id of a record is its first word, by which the id search goes.
 pub id-is : (l : List ℕ) (r : ℕ) → recordAt l r .id ≡ idAt l r
 unfolding recordAt
-id-is l r = refl
+id-is l r = let start : recordWords * r + 0 ≡ recordWords * r = omega arith in rw start
 
--- The part `l[12 r..12 r + 12]` is record r.
-pub of-part : (l : List ℕ) (r : ℕ) → recordOf (take (recordWords * r + recordWords - recordWords * r) (drop (recordWords * r) l)) ≡ recordAt l r
+-- The part of record r, its words alone, is record r.
+pub of-part : (l : List ℕ) (r : ℕ) → recordOf (partOf (take (recordWords * r + recordWords - recordWords * r) (drop (recordWords * r) l))) ≡ recordAt l r
 of-part l r =
-    let size : recordWords * r + recordWords - recordWords * r ≡ 12 = omega arith in
+    let size : recordWords * r + recordWords - recordWords * r ≡ recordWords = omega arith in
     rw size
-    (same-record (λ k. getD (take 12 (drop (recordWords * r) l)) k 0) (wordAt l r) (λ k h. getD-take 12 (drop (recordWords * r) l) k 0 h ∙ getD-drop (recordWords * r) l k 0)
+    (same-record (λ k. getD (take recordWords (drop (recordWords * r) l)) k 0) (wordAt l r) (λ k h. getD-take recordWords (drop (recordWords * r) l) k 0 h ∙ getD-drop (recordWords * r) l k 0)
     ∙ sym (by-words l r))
 
 flag-set : (b : Bool) → isSet (flag b) ≡ b
@@ -77,7 +55,7 @@ flag-set true = refl
 flag-set false = refl
 
 -- The words of a record make that record.
-of-list : (v : Record) → made (λ k. getD (recordList v) k 0) ≡ v
+of-list : (v : Record) → recordOf (partOf (recordList v)) ≡ v
 of-list v = rw (flag-set (v .incoming), flag-set (v .cancelled))
 
 -- ---- a record that is put
@@ -95,7 +73,7 @@ module _ (l : List ℕ) (r : ℕ) (v : Record) (fits : recordWords * r + recordW
       ∙ same-record (wordAt (put recordWords l r (recordList v)) s) (wordAt l s) other
       ∙ sym (by-words l s)
     where
-      other : (k : ℕ) → k < 12 → wordAt (put recordWords l r (recordList v)) s k ≡ wordAt l s k
+      other : (k : ℕ) → k < recordWords → wordAt (put recordWords l r (recordList v)) s k ≡ wordAt l s k
       other k h =
           ⊎-elim
           (λ (e : s ≡ r). absurd (differs e))

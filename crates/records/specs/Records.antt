@@ -5,7 +5,7 @@ use mathlib.Core.List.{List, [], _∷_}
 use lib.Dec.{eqb}
 use lib.ListN.{getD, set}
 use Rattle.base.specs.Fields.{flag}
-use Rattle.ids.specs.Free.{recordWords, idAt}
+use Rattle.ids.specs.Free.{recordWords}
 use Rattle.records.specs.declared.Record.{Record}
 
 -- The kinds of a request, and the states of a held record.
@@ -45,41 +45,30 @@ wordAt records r k = getD records (recordWords * r + k) 0
 abbrev pub isSet : ℕ → Bool
 isSet w = not (eqb w 0)
 
--- Any twelve words are a record: those of a part,
-abbrev pub recordOf : List ℕ → Record
-recordOf part =
+-- Any words are a record: its fields by name, from the row of its words.
+abbrev pub recordOf : (ℕ → ℕ) → Record
+recordOf word =
     record {
-      id = getD part 0 0;
-      kind = getD part 1 0;
-      incoming = isSet (getD part 2 0);
-      state = getD part 3 0;
-      cancelled = isSet (getD part 4 0);
-      address = getD part 5 0;
-      length = getD part 6 0;
-      setup = getD part 7 0;
-      place = getD part 8 0;
-      count = getD part 9 0;
-      given = getD part 10 0;
-      recorded = getD part 11 0;
+      id = word 0;
+      kind = word 1;
+      incoming = isSet (word 2);
+      state = word stateWord;
+      cancelled = isSet (word cancelledWord);
+      address = word 5;
+      length = word 6;
+      setup = word 7;
+      place = word 8;
+      count = word 9;
+      given = word 10;
+      recorded = word recordedWord;
     }
 
--- and those of record r of a table.
+-- Those of a part, and those of record r of a table.
+abbrev pub partOf : List ℕ → ℕ → ℕ
+partOf part k = getD part k 0
+
 unfoldable pub recordAt : List ℕ → ℕ → Record
-recordAt records r =
-    record {
-      id = idAt records r;
-      kind = wordAt records r 1;
-      incoming = isSet (wordAt records r 2);
-      state = wordAt records r 3;
-      cancelled = isSet (wordAt records r 4);
-      address = wordAt records r 5;
-      length = wordAt records r 6;
-      setup = wordAt records r 7;
-      place = wordAt records r 8;
-      count = wordAt records r 9;
-      given = wordAt records r 10;
-      recorded = wordAt records r 11;
-    }
+recordAt records r = recordOf (wordAt records r)
 
 -- The words of a record, in order.
 abbrev pub recordList : Record → List ℕ

@@ -6,7 +6,7 @@ ghost use lib.ListN.{length};
 ghost use Rattle.base.specs.Fields.{flag};
 ghost use Rattle.base.specs.Part.{filled, put};
 ghost use Rattle.ids.specs.Free.{recordWords, recordCount};
-ghost use Rattle.records.specs.Records.{recordOf, recordAt, recordList, setWord};
+ghost use Rattle.records.specs.Records.{recordOf, partOf, recordAt, recordList, setWord};
 use ids::RECORD_WORDS;
 
 // What a request's later stores and its completion need.
@@ -40,7 +40,7 @@ pub const STOPPED: u64 = 2;
 // What twelve words say.
 fn record_of(part: &[u64]) -> Record
     requires { ⌜ length (now part) ≡ recordWords ⌝ }
-    ensures { λ v. ⌜ v ≡ recordOf (now (part .entry)) ⌝ }
+    ensures { λ v. ⌜ v ≡ recordOf (partOf (now (part .entry))) ⌝ }
 {
     Record {
         id: part[0],

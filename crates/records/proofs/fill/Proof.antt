@@ -10,6 +10,7 @@ use denote.Ref.{now}
 use Rattle.base.specs.Part.{filled}
 use Rattle.base.proofs.Lent.{all-stored}
 use Rattle.records.specs.Records.{recordList}
+use Rattle.ids.specs.Free.{recordWords}
 use borrow.Author.Needs.{needs}
 use Rattle.records.proofs.fill.Statement.{statement}
 use Rattle.records.proofs.fill.Tie as tie
@@ -19,7 +20,7 @@ unfolding filled
 returns c = simp (ne-eqb _ _ (c .if1 .taken))
 
 -- Past the test the part has twelve words.
-size : (c : tie.After-bit2) → length (now (c .before .before .before .before .args .part)) ≡ 12
+size : (c : tie.After-bit2) → length (now (c .before .before .before .before .args .part)) ≡ recordWords
 size c = omega arith
 
 returns-2 : tie.Need-returns-2

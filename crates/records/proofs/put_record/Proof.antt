@@ -2,6 +2,7 @@
 use native.Mathlib.Omega.{arith}
 use denote.Ref.{now}
 use Rattle.base.proofs.Lent.{lent}
+use Rattle.ids.specs.Free.{recordWords}
 use borrow.Author.Needs.{needs}
 use Rattle.records.proofs.put_record.Statement.{statement}
 use Rattle.records.proofs.put_record.Tie as tie
@@ -9,7 +10,7 @@ use Rattle.records.proofs.put_record.Tie as tie
 returns : tie.Need-returns
 returns c =
     let a = c .before .before .before .before .before .args in
-    lent 12 (now (a .records)) (a .r) _ (omega arith) (c .before .before .fill .ensures)
+    lent recordWords (now (a .records)) (a .r) _ (omega arith) (c .before .before .fill .ensures)
 
 pub put-record-spec : {M : Type 1} → statement M
 put-record-spec =
