@@ -1,6 +1,6 @@
 // The calls of the dock for programs in C, Rust or any language that calls C: numbers and slices only.
 //
-// A slice crosses as a pointer to its first element and its length. An endpoint is 22 words that the caller keeps and lends to each call, a
+// A slice crosses as a pointer to its first element and its length. An endpoint is words (`loaded` has how many) that the caller keeps and lends to each call, a
 // request is eight words, and an answer is document 01's number, which is returned, and, for the calls that have values to tell, nine words
 // (crates `loaded` and `told` say which). Nothing is asked of the numbers: words of a wrong length and a request of no kind are answered 1, and any
 // other words are an endpoint or a request. A call that is refused leaves the endpoint's words as they are, even where a save would change them.
@@ -11,7 +11,7 @@ ghost use Rattle.dock_c.specs.Exported.{made, configured, started, store
 use loaded::load;
 use saved::settle::settle;
 use saved::settle::settle_told;
-use saved::state::STATE_WORDS;
+use loaded::STATE_WORDS;
 use told::answer;
 use told::answer::ANSWER_WORDS;
 use told::answer::tell;

@@ -1,6 +1,7 @@
--- The endpoint as 22 words, one a field, in the order of its declaration. Any words are an endpoint: a field narrower than its word is the word
--- modulo its width, and a flag is set by any word but 0.
-use Prim.Native.Nat.{ℕ, _%_, _^_, _<_}
+-- The endpoint as words, one a field, in the order of its declaration. Any words are an endpoint: a field narrower than its word is the word
+-- modulo its width, and a flag is set by any word but 0. Each part of an endpoint stands here twice, as its words and as what words say of it, from the
+-- word on that follows the part before.
+use Prim.Native.Nat.{ℕ, _+_, _%_, _^_, _<_}
 use mathlib.Core.Bool.{Bool, _&&_, _||_}
 use mathlib.Core.List.{List, [], _∷_, _++_}
 use lib.Dec.{eqb, leb, ltb}
@@ -17,79 +18,111 @@ use Rattle.dock.specs.declared.Periodic.{Periodic}
 use Rattle.dock.specs.declared.Shape.{Shape}
 use Rattle.dock.specs.declared.Work.{Work}
 
-abbrev pub stateWords : ℕ
-stateWords = 22
+-- ---- position
 
--- The parts of an endpoint, each of its words.
-abbrev pub positionOf : ℕ → ℕ → Position
-positionOf place cycle = record { place = place; cycle = isSet cycle }
+abbrev pub positionFrom : ℕ
+positionFrom = 0
 
-abbrev pub shapeOf : ℕ → ℕ → Shape
-shapeOf slots base = record { slots = slots; base = base }
+abbrev pub positionWords : Position → List ℕ
+positionWords p = p .place ∷ flag (p .cycle) ∷ []
 
-abbrev pub identityOf : ℕ → ℕ → ℕ → Identity
-identityOf slot dci mask = record { slot = slot % 2 ^ 8; dci = dci % 2 ^ 8; mask = mask }
+abbrev pub positionAt : List ℕ → Position
+positionAt w = record { place = getD w positionFrom 0; cycle = isSet (getD w (positionFrom + 1) 0) }
 
-abbrev pub periodicOf : ℕ → ℕ → ℕ → ℕ → Periodic
-periodicOf packet burst interval frame =
-    record { packet = packet % 2 ^ 16; burst = burst % 2 ^ 8; interval = interval % 2 ^ 8; frame = frame % 2 ^ 16 }
+-- ---- shape
 
-abbrev pub accountOf : ℕ → ℕ → ℕ → Account
-accountOf next occupancy outstanding = record { next = next; occupancy = occupancy; outstanding = outstanding }
+abbrev pub shapeFrom : ℕ
+shapeFrom = positionFrom + 2
 
-abbrev pub flagsOf : ℕ → ℕ → Flags
-flagsOf halted reset = record { halted = isSet halted; reset = isSet reset }
+abbrev pub shapeWords : Shape → List ℕ
+shapeWords s = s .slots ∷ s .base ∷ []
 
-abbrev pub workOf : ℕ → ℕ → ℕ → ℕ → ℕ → ℕ → Work
-workOf busy number stored address place cycle =
-    record { busy = isSet busy; number = number; stored = stored; address = address; place = place; cycle = isSet cycle }
+abbrev pub shapeAt : List ℕ → Shape
+shapeAt w = record { slots = getD w shapeFrom 0; base = getD w (shapeFrom + 1) 0 }
+
+-- ---- identity
+
+abbrev pub identityFrom : ℕ
+identityFrom = shapeFrom + 2
+
+abbrev pub identityWords : Identity → List ℕ
+identityWords i = i .slot ∷ i .dci ∷ i .mask ∷ []
+
+abbrev pub identityAt : List ℕ → Identity
+identityAt w = record { slot = getD w identityFrom 0 % 2 ^ 8; dci = getD w (identityFrom + 1) 0 % 2 ^ 8; mask = getD w (identityFrom + 2) 0 }
+
+-- ---- periodic
+
+abbrev pub periodicFrom : ℕ
+periodicFrom = identityFrom + 3
+
+abbrev pub periodicWords : Periodic → List ℕ
+periodicWords p = p .packet ∷ p .burst ∷ p .interval ∷ p .frame ∷ []
+
+abbrev pub periodicAt : List ℕ → Periodic
+periodicAt w = record { packet = getD w periodicFrom 0 % 2 ^ 16; burst = getD w (periodicFrom + 1) 0 % 2 ^ 8; interval = getD w (periodicFrom + 2) 0 % 2 ^ 8; frame = getD w (periodicFrom + 3) 0 % 2 ^ 16 }
+
+-- ---- account
+
+abbrev pub accountFrom : ℕ
+accountFrom = periodicFrom + 4
+
+abbrev pub accountWords : Account → List ℕ
+accountWords a = a .next ∷ a .occupancy ∷ a .outstanding ∷ []
+
+abbrev pub accountAt : List ℕ → Account
+accountAt w = record { next = getD w accountFrom 0; occupancy = getD w (accountFrom + 1) 0; outstanding = getD w (accountFrom + 2) 0 }
+
+-- ---- flags
+
+abbrev pub flagsFrom : ℕ
+flagsFrom = accountFrom + 3
+
+abbrev pub flagsWords : Flags → List ℕ
+flagsWords f = flag (f .halted) ∷ flag (f .reset) ∷ []
+
+abbrev pub flagsAt : List ℕ → Flags
+flagsAt w = record { halted = isSet (getD w flagsFrom 0); reset = isSet (getD w (flagsFrom + 1) 0) }
+
+-- ---- work
+
+abbrev pub workFrom : ℕ
+workFrom = flagsFrom + 2
+
+abbrev pub workWords : Work → List ℕ
+workWords w = flag (w .busy) ∷ w .number ∷ w .stored ∷ w .address ∷ w .place ∷ flag (w .cycle) ∷ []
 
 abbrev pub workAt : List ℕ → Work
-workAt w = workOf (getD w 16 0) (getD w 17 0) (getD w 18 0) (getD w 19 0) (getD w 20 0) (getD w 21 0)
+workAt w = record { busy = isSet (getD w workFrom 0); number = getD w (workFrom + 1) 0; stored = getD w (workFrom + 2) 0; address = getD w (workFrom + 3) 0; place = getD w (workFrom + 4) 0; cycle = isSet (getD w (workFrom + 5) 0) }
+
+-- ---- the endpoint
+
+abbrev pub stateWords : ℕ
+stateWords = workFrom + 6
 
 -- The endpoint that words say,
 unfoldable pub load : List ℕ → Endpoint
 load w =
     record {
-      at = positionOf (getD w 0 0) (getD w 1 0);
-      shape = shapeOf (getD w 2 0) (getD w 3 0);
-      who = identityOf (getD w 4 0) (getD w 5 0) (getD w 6 0);
-      periodic = periodicOf (getD w 7 0) (getD w 8 0) (getD w 9 0) (getD w 10 0);
-      account = accountOf (getD w 11 0) (getD w 12 0) (getD w 13 0);
-      flags = flagsOf (getD w 14 0) (getD w 15 0);
+      at = positionAt w;
+      shape = shapeAt w;
+      who = identityAt w;
+      periodic = periodicAt w;
+      account = accountAt w;
+      flags = flagsAt w;
       work = workAt w;
     }
 
--- and the words of an endpoint, in three rows.
-abbrev pub frontWords : Position → Shape → Identity → List ℕ
-frontWords at shape who =
-    at .place ∷ flag (at .cycle) ∷ shape .slots ∷ shape .base ∷ who .slot ∷ who .dci ∷ who .mask ∷ []
-
-abbrev pub middleWords : Periodic → Account → List ℕ
-middleWords periodic account =
-    periodic .packet
-    ∷ periodic .burst
-    ∷ periodic .interval
-    ∷ periodic .frame
-    ∷ account .next
-    ∷ account .occupancy
-    ∷ account .outstanding
-    ∷ []
-
-abbrev pub backWords : Flags → Work → List ℕ
-backWords flags work =
-    flag (flags .halted)
-    ∷ flag (flags .reset)
-    ∷ flag (work .busy)
-    ∷ work .number
-    ∷ work .stored
-    ∷ work .address
-    ∷ work .place
-    ∷ flag (work .cycle)
-    ∷ []
-
+-- and the words of an endpoint.
 unfoldable pub save : Endpoint → List ℕ
-save e = frontWords (e .at) (e .shape) (e .who) ++ middleWords (e .periodic) (e .account) ++ backWords (e .flags) (e .work)
+save e =
+    positionWords (e .at)
+    ++ shapeWords (e .shape)
+    ++ identityWords (e .who)
+    ++ periodicWords (e .periodic)
+    ++ accountWords (e .account)
+    ++ flagsWords (e .flags)
+    ++ workWords (e .work)
 
 -- The fields that are narrower than a word are so: true of every endpoint that a program holds.
 pub record Narrow (e : Endpoint) : Type 0 where

@@ -1,8 +1,10 @@
-// An endpoint from its words, 22 of 64 bits, one a field. Any words are an endpoint: a field narrower than its word is read modulo its width, and a flag
+// An endpoint from its words, of 64 bits, one a field. Any words are an endpoint: a field narrower than its word is read modulo its width, and a flag
 // is set by any word but 0. specs/State.antt has the words, also as `saved` writes them.
+//
+// The parts stand one behind the other, each from a word on: a part with more words moves those behind it, and nothing else.
 ghost use mathlib.Core.Path.{_≡_};
 ghost use lib.ListN.{length};
-ghost use Rattle.loaded.specs.State.{stateWords, load, positionOf, shapeOf, identityOf, periodicOf, accountOf, flagsOf, workOf, workAt};
+ghost use Rattle.loaded.specs.State.{stateWords, load, positionAt, shapeAt, identityAt, periodicAt, accountAt, flagsAt, workAt};
 use dock::Account;
 use dock::Endpoint;
 use dock::Flags;
@@ -12,90 +14,100 @@ use dock::Shape;
 use dock::Work;
 use ring::Position;
 
-fn position(place: u64, cycle: u64) -> Position
-    ensures { λ r. ⌜ r ≡ positionOf place cycle ⌝ }
+// The word from which each part stands.
+pub const POSITION: usize = 0;
+
+pub const SHAPE: usize = POSITION + 2;
+
+pub const IDENTITY: usize = SHAPE + 2;
+
+pub const PERIODIC: usize = IDENTITY + 3;
+
+pub const ACCOUNT: usize = PERIODIC + 4;
+
+pub const FLAGS: usize = ACCOUNT + 3;
+
+pub const WORK: usize = FLAGS + 2;
+
+// The words of an endpoint.
+pub const STATE_WORDS: usize = WORK + 6;
+
+fn position(words: &[u64]) -> Position
+    requires { ⌜ length (now words) ≡ stateWords ⌝ }
+    ensures { λ r. ⌜ r ≡ positionAt (now (words .entry)) ⌝ }
 {
     Position {
-        place: place as usize,
-        cycle: cycle != 0,
+        place: words[POSITION] as usize,
+        cycle: words[POSITION + 1] != 0,
     }
 }
 
-fn shape(slots: u64, base: u64) -> Shape
-    ensures { λ r. ⌜ r ≡ shapeOf slots base ⌝ }
+fn shape(words: &[u64]) -> Shape
+    requires { ⌜ length (now words) ≡ stateWords ⌝ }
+    ensures { λ r. ⌜ r ≡ shapeAt (now (words .entry)) ⌝ }
 {
     Shape {
-        slots: slots as usize,
-        base,
+        slots: words[SHAPE] as usize,
+        base: words[SHAPE + 1],
     }
 }
 
-fn identity(slot: u64, dci: u64, mask: u64) -> Identity
-    ensures { λ r. ⌜ r ≡ identityOf slot dci mask ⌝ }
+fn identity(words: &[u64]) -> Identity
+    requires { ⌜ length (now words) ≡ stateWords ⌝ }
+    ensures { λ r. ⌜ r ≡ identityAt (now (words .entry)) ⌝ }
 {
     Identity {
-        slot: (slot % 0x100) as u8,
-        dci: (dci % 0x100) as u8,
-        mask,
+        slot: (words[IDENTITY] % 0x100) as u8,
+        dci: (words[IDENTITY + 1] % 0x100) as u8,
+        mask: words[IDENTITY + 2],
     }
 }
 
-fn periodic(packet: u64, burst: u64, interval: u64, frame: u64) -> Periodic
-    ensures { λ r. ⌜ r ≡ periodicOf packet burst interval frame ⌝ }
+fn periodic(words: &[u64]) -> Periodic
+    requires { ⌜ length (now words) ≡ stateWords ⌝ }
+    ensures { λ r. ⌜ r ≡ periodicAt (now (words .entry)) ⌝ }
 {
     Periodic {
-        packet: (packet % 0x1_0000) as u16,
-        burst: (burst % 0x100) as u8,
-        interval: (interval % 0x100) as u8,
-        frame: (frame % 0x1_0000) as u16,
+        packet: (words[PERIODIC] % 0x1_0000) as u16,
+        burst: (words[PERIODIC + 1] % 0x100) as u8,
+        interval: (words[PERIODIC + 2] % 0x100) as u8,
+        frame: (words[PERIODIC + 3] % 0x1_0000) as u16,
     }
 }
 
-fn account(next: u64, occupancy: u64, outstanding: u64) -> Account
-    ensures { λ r. ⌜ r ≡ accountOf next occupancy outstanding ⌝ }
+fn account(words: &[u64]) -> Account
+    requires { ⌜ length (now words) ≡ stateWords ⌝ }
+    ensures { λ r. ⌜ r ≡ accountAt (now (words .entry)) ⌝ }
 {
     Account {
-        next,
-        occupancy,
-        outstanding,
+        next: words[ACCOUNT],
+        occupancy: words[ACCOUNT + 1],
+        outstanding: words[ACCOUNT + 2],
     }
 }
 
-fn flags(halted: u64, reset: u64) -> Flags
-    ensures { λ r. ⌜ r ≡ flagsOf halted reset ⌝ }
+fn flags(words: &[u64]) -> Flags
+    requires { ⌜ length (now words) ≡ stateWords ⌝ }
+    ensures { λ r. ⌜ r ≡ flagsAt (now (words .entry)) ⌝ }
 {
     Flags {
-        halted: halted != 0,
-        reset: reset != 0,
+        halted: words[FLAGS] != 0,
+        reset: words[FLAGS + 1] != 0,
     }
 }
 
-fn work(busy: u64, number: u64, stored: u64, address: u64, place: u64, cycle: u64) -> Work
-    ensures { λ r. ⌜ r ≡ workOf busy number stored address place cycle ⌝ }
-{
-    Work {
-        busy: busy != 0,
-        number: number as usize,
-        stored: stored as usize,
-        address,
-        place: place as usize,
-        cycle: cycle != 0,
-    }
-}
-
-// The submission under way stands in the last six words.
-fn work_at(words: &[u64]) -> Work
+fn work(words: &[u64]) -> Work
     requires { ⌜ length (now words) ≡ stateWords ⌝ }
     ensures { λ r. ⌜ r ≡ workAt (now (words .entry)) ⌝ }
 {
-    work(
-        words[16],
-        words[17],
-        words[18],
-        words[19],
-        words[20],
-        words[21],
-    )
+    Work {
+        busy: words[WORK] != 0,
+        number: words[WORK + 1] as usize,
+        stored: words[WORK + 2] as usize,
+        address: words[WORK + 3],
+        place: words[WORK + 4] as usize,
+        cycle: words[WORK + 5] != 0,
+    }
 }
 
 // The endpoint that the words say.
@@ -104,12 +116,12 @@ pub fn load(words: &[u64]) -> Endpoint
     ensures { λ e. ⌜ e ≡ load (now (words .entry)) ⌝ }
 {
     Endpoint {
-        at: position(words[0], words[1]),
-        shape: shape(words[2], words[3]),
-        who: identity(words[4], words[5], words[6]),
-        periodic: periodic(words[7], words[8], words[9], words[10]),
-        account: account(words[11], words[12], words[13]),
-        flags: flags(words[14], words[15]),
-        work: work_at(words),
+        at: position(words),
+        shape: shape(words),
+        who: identity(words),
+        periodic: periodic(words),
+        account: account(words),
+        flags: flags(words),
+        work: work(words),
     }
 }

@@ -2,7 +2,9 @@
 ghost use mathlib.Core.Path.{_≡_};
 ghost use lib.ListN.{length};
 ghost use lib.Seq.{sets};
-ghost use Rattle.loaded.specs.State.{stateWords, load, save, moves, kept, frontWords, middleWords, backWords, Narrow};
+ghost use Rattle.loaded.specs.State.{stateWords, load, save, moves, kept, Narrow};
+ghost use Rattle.loaded.specs.State.{positionFrom, positionWords, shapeFrom, shapeWords, identityFrom, identityWords, periodicFrom, periodicWords};
+ghost use Rattle.loaded.specs.State.{accountFrom, accountWords, flagsFrom, flagsWords, workFrom, workWords};
 use dock::Account;
 use dock::Endpoint;
 use dock::Flags;
@@ -10,69 +12,95 @@ use dock::Identity;
 use dock::Periodic;
 use dock::Shape;
 use dock::Work;
+use loaded::ACCOUNT;
+use loaded::FLAGS;
+use loaded::IDENTITY;
+use loaded::PERIODIC;
+use loaded::POSITION;
+use loaded::SHAPE;
+use loaded::STATE_WORDS;
+use loaded::WORK;
 use ring::Position;
 use told::answer::bit;
 
-// The words of an endpoint.
-pub const STATE_WORDS: usize = 22;
-
-// Words 0 to 6.
-fn put_front(words: &mut [u64], at: Position, shape: Shape, who: Identity)
+fn put_position(words: &mut [u64], p: Position)
     requires { ⌜ length (now words) ≡ stateWords ⌝ }
-    ensures { λ _. ⌜ now (words .exit) ≡ sets (now (words .entry)) 0 (frontWords at shape who) ⌝ }
+    ensures { λ _. ⌜ now (words .exit) ≡ sets (now (words .entry)) positionFrom (positionWords p) ⌝ }
 {
-    let place = at.place as u64;
-    let cycle = bit(at.cycle);
-    let slots = shape.slots as u64;
+    let place = p.place as u64;
+    let cycle = bit(p.cycle);
+    words[POSITION] = place;
+    words[POSITION + 1] = cycle;
+}
+
+fn put_shape(words: &mut [u64], s: Shape)
+    requires { ⌜ length (now words) ≡ stateWords ⌝ }
+    ensures { λ _. ⌜ now (words .exit) ≡ sets (now (words .entry)) shapeFrom (shapeWords s) ⌝ }
+{
+    let slots = s.slots as u64;
+    words[SHAPE] = slots;
+    words[SHAPE + 1] = s.base;
+}
+
+fn put_identity(words: &mut [u64], who: Identity)
+    requires { ⌜ length (now words) ≡ stateWords ⌝ }
+    ensures { λ _. ⌜ now (words .exit) ≡ sets (now (words .entry)) identityFrom (identityWords who) ⌝ }
+{
     let slot = who.slot as u64;
     let dci = who.dci as u64;
-    words[0] = place;
-    words[1] = cycle;
-    words[2] = slots;
-    words[3] = shape.base;
-    words[4] = slot;
-    words[5] = dci;
-    words[6] = who.mask;
+    words[IDENTITY] = slot;
+    words[IDENTITY + 1] = dci;
+    words[IDENTITY + 2] = who.mask;
 }
 
-// Words 7 to 13.
-fn put_middle(words: &mut [u64], periodic: Periodic, account: Account)
+fn put_periodic(words: &mut [u64], s: Periodic)
     requires { ⌜ length (now words) ≡ stateWords ⌝ }
-    ensures { λ _. ⌜ now (words .exit) ≡ sets (now (words .entry)) 7 (middleWords periodic account) ⌝ }
+    ensures { λ _. ⌜ now (words .exit) ≡ sets (now (words .entry)) periodicFrom (periodicWords s) ⌝ }
 {
-    let packet = periodic.packet as u64;
-    let burst = periodic.burst as u64;
-    let interval = periodic.interval as u64;
-    let frame = periodic.frame as u64;
-    words[7] = packet;
-    words[8] = burst;
-    words[9] = interval;
-    words[10] = frame;
-    words[11] = account.next;
-    words[12] = account.occupancy;
-    words[13] = account.outstanding;
+    let packet = s.packet as u64;
+    let burst = s.burst as u64;
+    let interval = s.interval as u64;
+    let frame = s.frame as u64;
+    words[PERIODIC] = packet;
+    words[PERIODIC + 1] = burst;
+    words[PERIODIC + 2] = interval;
+    words[PERIODIC + 3] = frame;
 }
 
-// Words 14 to 21.
-fn put_back(words: &mut [u64], flags: Flags, work: Work)
+fn put_account(words: &mut [u64], a: Account)
     requires { ⌜ length (now words) ≡ stateWords ⌝ }
-    ensures { λ _. ⌜ now (words .exit) ≡ sets (now (words .entry)) 14 (backWords flags work) ⌝ }
+    ensures { λ _. ⌜ now (words .exit) ≡ sets (now (words .entry)) accountFrom (accountWords a) ⌝ }
 {
-    let halted = bit(flags.halted);
-    let reset = bit(flags.reset);
-    let busy = bit(work.busy);
-    let number = work.number as u64;
-    let stored = work.stored as u64;
-    let place = work.place as u64;
-    let cycle = bit(work.cycle);
-    words[14] = halted;
-    words[15] = reset;
-    words[16] = busy;
-    words[17] = number;
-    words[18] = stored;
-    words[19] = work.address;
-    words[20] = place;
-    words[21] = cycle;
+    words[ACCOUNT] = a.next;
+    words[ACCOUNT + 1] = a.occupancy;
+    words[ACCOUNT + 2] = a.outstanding;
+}
+
+fn put_flags(words: &mut [u64], f: Flags)
+    requires { ⌜ length (now words) ≡ stateWords ⌝ }
+    ensures { λ _. ⌜ now (words .exit) ≡ sets (now (words .entry)) flagsFrom (flagsWords f) ⌝ }
+{
+    let halted = bit(f.halted);
+    let reset = bit(f.reset);
+    words[FLAGS] = halted;
+    words[FLAGS + 1] = reset;
+}
+
+fn put_work(words: &mut [u64], w: Work)
+    requires { ⌜ length (now words) ≡ stateWords ⌝ }
+    ensures { λ _. ⌜ now (words .exit) ≡ sets (now (words .entry)) workFrom (workWords w) ⌝ }
+{
+    let busy = bit(w.busy);
+    let number = w.number as u64;
+    let stored = w.stored as u64;
+    let place = w.place as u64;
+    let cycle = bit(w.cycle);
+    words[WORK] = busy;
+    words[WORK + 1] = number;
+    words[WORK + 2] = stored;
+    words[WORK + 3] = w.address;
+    words[WORK + 4] = place;
+    words[WORK + 5] = cycle;
 }
 
 // The words of an endpoint.
@@ -87,9 +115,13 @@ fn save(words: &mut [u64], e: Endpoint)
     let account = e.account;
     let flags = e.flags;
     let work = e.work;
-    put_front(words, at, shape, who);
-    put_middle(words, periodic, account);
-    put_back(words, flags, work);
+    put_position(words, at);
+    put_shape(words, shape);
+    put_identity(words, who);
+    put_periodic(words, periodic);
+    put_account(words, account);
+    put_flags(words, flags);
+    put_work(words, work);
 }
 
 // Does an answer of this number change the endpoint? Document 01: rows 0, 7, 8 and 9; the others leave it.
