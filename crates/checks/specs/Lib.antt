@@ -1,2 +1,3 @@
 -- The definitions that only the contracts of `checks` cite.
+pub mod Shown
 pub mod Step

@@ -8,10 +8,10 @@
 // Each function loads the endpoint, makes the call of its name, saves the endpoint and tells the answer; specs/Exported.antt says so, once each.
 ghost use mathlib.Core.Path.{_≡_};
 ghost use Rattle.dock_c.specs.Exported.{made, configured, started, storedOne, submitted, handedOver, reclaimed, cancelled, retired, resetBegun, resetEnded, stopped, resumed, pointed};
+use loaded::STATE_WORDS;
 use loaded::load;
 use saved::settle::settle;
 use saved::settle::settle_told;
-use loaded::STATE_WORDS;
 use told::answer;
 use told::answer::ANSWER_WORDS;
 use told::answer::tell;

@@ -5,19 +5,16 @@
 // freed and its TRBs leave flight.
 //
 // `reclaim_request` takes any endpoint, tables and numbers: it tests what it needs, and what it answers and leaves is its definition in `dock`.
-ghost use Prim.Native.Nat.{_*_};
 ghost use Rattle.dock.specs.Reclaim.{reclaim};
 use ids::Lookup;
 ghost use mathlib.Core.Path.{_≡_};
 ghost use mathlib.Core.Bool.{false};
-ghost use Prim.Native.Nat.{_*_, _≤_, _<_};
+ghost use Prim.Native.Nat.{_≤_};
 ghost use lib.ListN.{length};
-ghost use Rattle.ids.specs.Free.{recordCount, recordWords};
-ghost use Rattle.packets.specs.Packets.{packetCount};
+ghost use Rattle.sizes.specs.Sizes.{recordsSize, packetsSize, packetCount};
 ghost use Rattle.records.specs.Records.{isoch, recordAt};
 ghost use Rattle.dock.specs.Reclaim.{reclaimFlying};
-ghost use Rattle.completing.specs.Flying.{Flying};
-ghost use Rattle.refusal.specs.Sizes.{Sizes};
+ghost use Rattle.checks.specs.Shown.{Shown};
 ghost use Rattle.refusal.specs.Misplaced.{misplaced};
 ghost use Rattle.reclaiming.specs.Parts.{reclaimAt};
 use checks::BULK;
@@ -45,7 +42,7 @@ fn reclaim_flying(
     v: Record,
     number: usize,
 ) -> ReclaimedOne
-    requires { ⌜ (Flying (e .shape .slots) (length (now finished)) v number) × (length (now records) ≡ recordCount * recordWords) × (length (now packets) ≡ recordCount * packetCount) × (v .kind ≡ isoch → v .count ≤ packetCount) ⌝ }
+    requires { ⌜ (Shown (e .shape .slots) (length (now finished)) (v .place) number) × (length (now records) ≡ recordsSize) × (length (now packets) ≡ packetsSize) × (v .kind ≡ isoch → v .count ≤ packetCount) ⌝ }
     ensures { λ r. ⌜ (r, now (records .exit), now (packets .exit)) ≡ reclaimFlying e (now (finished .entry)) (now (records .entry)) (now (packets .entry)) v number ⌝ }
 {
     if v.kind == CONTROL {
@@ -71,7 +68,7 @@ fn reclaim_at(
     packets: &mut [u64],
     r: usize,
 ) -> ReclaimedOne
-    requires { ⌜ (Sizes (e .shape .slots) (length (now finished)) (length (now records)) (length (now packets))) × (r < recordCount) × (misplaced (e .shape .slots) (recordAt (now records) r) ≡ false) ⌝ }
+    requires { ⌜ (Shown (e .shape .slots) (length (now finished)) 0 r) × (length (now records) ≡ recordsSize) × (length (now packets) ≡ packetsSize) × (misplaced (e .shape .slots) (recordAt (now records) r) ≡ false) ⌝ }
     ensures { λ o. ⌜ (o, now (records .exit), now (packets .exit)) ≡ reclaimAt r e (now (finished .entry)) (now (records .entry)) (now (packets .entry)) ⌝ }
 {
     let v = records::record_at(records, r);

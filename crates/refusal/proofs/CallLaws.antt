@@ -24,13 +24,13 @@ use Rattle.packets.specs.Packets.{packetCount}
 use Rattle.records.specs.Records.{isoch, inFlight, recordAt}
 use Rattle.records.specs.declared.Record.{Record}
 use Rattle.dock.specs.Fit.{fits, fitsWith}
-use Rattle.dock.specs.Limits.{ringSize, packetsSize}
+use Rattle.dock.specs.Limits.{ringSize, recordsSize, packetsSize}
 use Rattle.dock.specs.HandOver.{isOutside, slotNumber, slotFor, foreign, handOverTests, handOverNo}
 use Rattle.dock.specs.Cancel.{cancelTests, cancelNo}
 use Rattle.dock.specs.Reclaim.{badRecord, reclaimTests, reclaimNo}
 use Rattle.dock.specs.declared.Endpoint.{Endpoint}
 use Rattle.checks.proofs.Laws.{fit, fit-with}
-use Rattle.refusal.specs.Sizes.{Sizes}
+use Rattle.checks.specs.Shown.{Shown}
 use Rattle.refusal.specs.Misplaced.{misplaced}
 
 -- A record that is found is one of the table's.
@@ -92,30 +92,28 @@ cancel-sized e records id none =
 -- The test of the sizes, as facts.
 pub fitted : (e : Endpoint) (finished : ℕ) (records : List ℕ) (packets : ℕ)
     → (fitsWith e records && eqb finished (ringSize (e .shape .slots)) && eqb packets packetsSize) ≡ true
-    → Sizes (e .shape .slots) finished (length records) packets
+    → (Shown (e .shape .slots) finished 0 0) × (length records ≡ recordsSize) × (packets ≡ packetsSize)
 fitted e finished records packets t =
     let last = and-eq-true-iff (fitsWith e records && eqb finished (ringSize (e .shape .slots))) (eqb packets packetsSize) .0 t in
     let two = and-eq-true-iff (fitsWith e records) (eqb finished (ringSize (e .shape .slots))) .0 (last .0) in
     let w = fit-with e records (two .0) in
     let l = fit e (w .fit) .limits in
-    record {
-      three = l .slots-least;
-      most = l .slots-most;
-      table = eqb-true _ _ (two .1);
-      words = w .size;
-      row = eqb-true _ _ (last .1);
-    }
+    let least = l .slots-least in (
+      record { least = least; most = l .slots-most; table = eqb-true _ _ (two .1); place = omega arith; held = omega arith },
+      w .size,
+      eqb-true _ _ (last .1),
+    )
 
 -- Where a reclaim is not refused.
 pub reclaimable : (e : Endpoint) (finished : ℕ) (records : List ℕ) (packets id : ℕ) → reclaimNo e finished records packets id ≡ 0
-    → (Sizes (e .shape .slots) finished (length records) packets)
+    → (Shown (e .shape .slots) finished 0 0)
+    × (length records ≡ recordsSize)
+    × (packets ≡ packetsSize)
     × (badRecord e records (findIn records (e .account .occupancy) id) ≡ false)
 unfolding reclaimNo reclaimTests
 reclaimable e finished records packets id none =
-    let ts = reclaimTests e finished records packets id in (
-      fitted e finished records packets (not-false _ (quiet ts 0 refl none (omega arith))),
-      quiet ts 1 refl none (omega arith),
-    )
+    let ts = reclaimTests e finished records packets id in
+    let f = fitted e finished records packets (not-false _ (quiet ts 0 refl none (omega arith))) in (f .0, f .1, f .2, quiet ts 1 refl none (omega arith))
 
 -- The test of a record that is found.
 pub bad-found : (e : Endpoint) (records : List ℕ) (r : ℕ) → misplaced (e .shape .slots) (recordAt records r) ≡ badRecord e records (At r)

@@ -1,3 +1,2 @@
 -- What the contracts of `refusal` cite.
 pub mod Misplaced
-pub mod Sizes

@@ -4,7 +4,7 @@ ghost use lib.ListN.{length};
 ghost use Rattle.dock.specs.Reclaim.{bulkBy, reclaimBulk};
 ghost use Rattle.ids.specs.Free.{recordCount};
 ghost use Prim.Native.Nat.{_<_};
-ghost use Rattle.completing.specs.Flying.{Flying};
+ghost use Rattle.checks.specs.Shown.{Shown};
 use completing::completed;
 use completing::less;
 use completing::unfinished;
@@ -29,7 +29,7 @@ fn by_event(f: Finished, e: Endpoint, v: Record, number: usize) -> ReclaimedOne
 }
 
 pub fn reclaim_bulk(e: Endpoint, finished: &[u32], v: Record, number: usize) -> ReclaimedOne
-    requires { ⌜ Flying (e .shape .slots) (length (now finished)) v number ⌝ }
+    requires { ⌜ Shown (e .shape .slots) (length (now finished)) (v .place) number ⌝ }
     ensures { λ r. ⌜ r ≡ reclaimBulk e (now (finished .entry)) v number ⌝ }
 {
     let place = v.place as usize;

@@ -7,7 +7,7 @@ ghost use Rattle.base.specs.First.{pick};
 ghost use Rattle.ids.specs.Free.{recordCount, recordWords};
 ghost use Rattle.finished.specs.Finished.{finishedAt};
 ghost use Rattle.dock.specs.Reclaim.{stageBy, statusBy, recordedBy, recordedLength, placeOf, statusPlace, dataSeen, reclaimControl};
-ghost use Rattle.completing.specs.Flying.{Flying};
+ghost use Rattle.checks.specs.Shown.{Shown};
 ghost use Rattle.stages.specs.Parts.{afterSetup};
 ghost use Rattle.stages.specs.Values.{seenOf};
 use completing::completed;
@@ -84,7 +84,7 @@ fn place_at(slots: usize, place: u64, k: usize) -> usize
 
 // What stands at the data's place, which a request of length 0 has not.
 fn data_seen(e: Endpoint, finished: &[u32], v: Record, number: usize) -> Finished
-    requires { ⌜ Flying (e .shape .slots) (length (now finished)) v number ⌝ }
+    requires { ⌜ Shown (e .shape .slots) (length (now finished)) (v .place) number ⌝ }
     ensures { λ r. ⌜ r ≡ dataSeen e (now (finished .entry)) v ⌝ }
 {
     if v.length == 0 {
@@ -102,7 +102,7 @@ fn status_step(length: u64) -> usize
 }
 
 fn status_seen(e: Endpoint, finished: &[u32], v: Record, number: usize) -> Finished
-    requires { ⌜ Flying (e .shape .slots) (length (now finished)) v number ⌝ }
+    requires { ⌜ Shown (e .shape .slots) (length (now finished)) (v .place) number ⌝ }
     ensures { λ r. ⌜ r ≡ finishedAt (now (finished .entry)) (statusPlace e v) ⌝ }
 {
     let place = place_at(e.shape.slots, v.place, status_step(v.length));
@@ -133,7 +133,7 @@ fn after_setup(
     v: Record,
     number: usize,
 ) -> ReclaimedOne
-    requires { ⌜ (Flying (e .shape .slots) (length (now finished)) v number) × (length (now records) ≡ recordCount * recordWords) ⌝ }
+    requires { ⌜ (Shown (e .shape .slots) (length (now finished)) (v .place) number) × (length (now records) ≡ recordCount * recordWords) ⌝ }
     ensures { λ r. ⌜ (r, now (records .exit)) ≡ afterSetup seen e (now (finished .entry)) (now (records .entry)) v number ⌝ }
 {
     let recorded = recorded_by(seen, v);
@@ -155,7 +155,7 @@ pub fn reclaim_control(
     v: Record,
     number: usize,
 ) -> ReclaimedOne
-    requires { ⌜ (Flying (e .shape .slots) (length (now finished)) v number) × (length (now records) ≡ recordCount * recordWords) ⌝ }
+    requires { ⌜ (Shown (e .shape .slots) (length (now finished)) (v .place) number) × (length (now records) ≡ recordCount * recordWords) ⌝ }
     ensures { λ r. ⌜ (r, now (records .exit)) ≡ reclaimControl e (now (finished .entry)) (now (records .entry)) v number ⌝ }
 {
     let place = v.place as usize;

@@ -19,7 +19,7 @@ use Rattle.marking.specs.Marking.{nowhere, walked}
 use Rattle.marking.specs.Words.{sweptBy, keepOne, keepBelow}
 use Rattle.marking.proofs.KeepLaws.{below-same}
 use Rattle.marking.proofs.MirrorLaws.{mirrors-sweep}
-use Rattle.completing.specs.Flying.{Flying}
+use Rattle.checks.specs.Shown.{Shown}
 use Rattle.walk.specs.Loaded.{loaded}
 
 module _ (l : List ℕ) (number : ℕ) where
@@ -55,7 +55,7 @@ keep-more n l number ps = rw (add-one n) refl
 
 -- ---- the whole walk
 
-module _ (slots : ℕ) (finished : List ℕ) (v : Record) (number : ℕ) (l : List ℕ) (flying : Flying slots (length finished) v number) (long : length l ≡ recordCount * packetCount)
+module _ (slots : ℕ) (finished : List ℕ) (v : Record) (number : ℕ) (l : List ℕ) (flying : Shown slots (length finished) (v .place) number) (long : length l ≡ recordCount * packetCount)
     (few : v .count ≤ packetCount) where
   abbrev its : Block
   its = record { first = 0; count = v .count; place = v .place; slots = slots }

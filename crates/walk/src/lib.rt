@@ -8,7 +8,7 @@ ghost use Rattle.packets.specs.Packets.{packetCount};
 ghost use Rattle.dock.specs.Reclaim.{total, sweep, reclaimIso};
 ghost use Rattle.marking.specs.Marking.{nowhere};
 ghost use Rattle.marking.specs.Words.{sweptBy, keepOne, keepBelow};
-ghost use Rattle.completing.specs.Flying.{Flying};
+ghost use Rattle.checks.specs.Shown.{Shown};
 ghost use Rattle.walk.specs.Loaded.{loaded};
 ghost use Rattle.walk.specs.Values.{sweptOf};
 use completing::completed;
@@ -106,7 +106,7 @@ fn told(s: Standing) -> Walk
 
 // The walk over the record's packets.
 fn walk_over(slots: usize, finished: &[u32], packets: &mut [u64], v: Record, number: usize) -> Walk
-    requires { ⌜ (Flying slots (length (now finished)) v number) × (length (now packets) ≡ recordCount * packetCount) × (v .count ≤ packetCount) ⌝ }
+    requires { ⌜ (Shown slots (length (now finished)) (v .place) number) × (length (now packets) ≡ recordCount * packetCount) × (v .count ≤ packetCount) ⌝ }
     ensures { λ r. ⌜ (sweptOf r, now (packets .exit)) ≡ sweep slots (now (finished .entry)) v number (v .count) 0 (now (packets .entry)) ⌝ }
 {
     let count = v.count as usize;
@@ -130,7 +130,7 @@ pub fn reclaim_iso(
     v: Record,
     number: usize,
 ) -> ReclaimedOne
-    requires { ⌜ (Flying (e .shape .slots) (length (now finished)) v number) × (length (now packets) ≡ recordCount * packetCount) × (v .count ≤ packetCount) ⌝ }
+    requires { ⌜ (Shown (e .shape .slots) (length (now finished)) (v .place) number) × (length (now packets) ≡ recordCount * packetCount) × (v .count ≤ packetCount) ⌝ }
     ensures { λ r. ⌜ (r, now (packets .exit)) ≡ reclaimIso e (now (finished .entry)) (now (packets .entry)) v number ⌝ }
 {
     let swept = walk_over(e.shape.slots, finished, packets, v, number);

@@ -19,7 +19,7 @@ flying : (c : tie.Then2)
 flying c =
     let slots = c .before .before .before .before .before .before .before .before .before .args .e .shape .slots in
     well-placed slots (c .before .before .before .before .record-at .result)
-    (ap (misplaced slots) (c .before .before .before .before .record-at .ensures) ∙ c .before .before .before .before .before .before .before .before .before .pre .2)
+    (ap (misplaced slots) (c .before .before .before .before .record-at .ensures) ∙ c .before .before .before .before .before .before .before .before .before .pre .3)
     (c .if2 .taken)
 
 returns : tie.Need-returns
@@ -30,10 +30,10 @@ reclaim-flying-requires : tie.Need-reclaim-flying-requires
 reclaim-flying-requires c κs =
     let s = c .before .before .before .before .before .before .before .before .before .before .before .pre .0 in
     let f = flying (c .before .before) in
-    let h = c .before .before .before .before .before .before .before .before .before .before .before .pre .1 in (
-      record { three = s .three; most = s .most; table = s .table; place = f .0; held = h },
-      s .words,
-      s .row,
+    let p = c .before .before .before .before .before .before .before .before .before .before .before .pre in (
+      record { least = s .least; most = s .most; table = s .table; place = f .0; held = s .held },
+      p .1,
+      p .2,
       f .1,
     )
 

@@ -11,7 +11,8 @@ use Rattle.ids.specs.Lookup.{findIn}
 use Rattle.reclaiming.specs.Parts.{reclaimAt}
 use Rattle.refusal.proofs.CallLaws.{found-within, bad-found, reclaimable}
 use Rattle.ids.specs.declared.Lookup.{Lookup}
-use Rattle.refusal.specs.Sizes.{Sizes}
+use Rattle.checks.specs.Shown.{Shown}
+use Rattle.sizes.specs.Sizes.{recordsSize, packetsSize}
 use Rattle.reclaiming.proofs.reclaim_request.Statement.{statement}
 use Rattle.reclaiming.proofs.reclaim_request.Tie as tie
 
@@ -23,7 +24,9 @@ none c = sym (c .before .reclaim-no .ensures) ∙ c .if1 .left
 
 ok : (c : tie.Else1)
     → let a = c .before .before .before .before .before .before .args in
-    (Sizes (a .e .shape .slots) (length (now (a .finished))) (length (now (a .records))) (length (now (a .packets))))
+    (Shown (a .e .shape .slots) (length (now (a .finished))) 0 0)
+    × (length (now (a .records)) ≡ recordsSize)
+    × (length (now (a .packets)) ≡ packetsSize)
     × (badRecord (a .e) (now (a .records)) (findIn (now (a .records)) (a .e .account .occupancy) (a .id)) ≡ false)
 ok c = reclaimable _ _ _ _ _ (none c)
 
@@ -32,15 +35,24 @@ unfolding reclaim
 returns c = simp (← c .before .reclaim-no .ensures, ne-eqb _ _ (c .if1 .taken))
 
 find-id-requires : tie.Need-find-id-requires
-find-id-requires c κs = ok (c .before) .0 .words
+find-id-requires c κs = ok (c .before) .1
 
 reclaim-at-requires : tie.Need-reclaim-at-requires
 reclaim-at-requires c κs =
     let a = c .before .before .before .before .before .before .before .before .before .before .before .before .before .args in
-    let told = (sym (c .before .before .before .found .given .1) ∙ c .before .before .before .before .before .find-id .ensures) in (
-      ok (c .before .before .before .before .before .before .before) .0,
-      found-within (now (a .records)) (a .e .account .occupancy) (a .id) _ told,
-      bad-found (a .e) (now (a .records)) _ ∙ ap (badRecord (a .e) (now (a .records))) told ∙ ok (c .before .before .before .before .before .before .before) .1,
+    let told = (sym (c .before .before .before .found .given .1) ∙ c .before .before .before .before .before .find-id .ensures) in
+    let tests = ok (c .before .before .before .before .before .before .before) in
+    let s = tests .0 in (
+      record {
+        least = s .least;
+        most = s .most;
+        table = s .table;
+        place = s .place;
+        held = found-within (now (a .records)) (a .e .account .occupancy) (a .id) _ told;
+      },
+      tests .1,
+      tests .2,
+      bad-found (a .e) (now (a .records)) _ ∙ ap (badRecord (a .e) (now (a .records))) told ∙ tests .3,
     )
 
 returns-2 : tie.Need-returns-2

@@ -18,7 +18,7 @@ returns c = simp (failed (c .before .is-fitted .ensures) (c .if1 .taken))
 is-bad-requires : tie.Need-is-bad-requires
 is-bad-requires c κs =
     let a = c .before .before .before .args in
-    fitted (a .e) (a .finished) (now (a .records)) (a .packets) (passed (c .before .is-fitted .ensures) (c .if1 .left)) .words
+    fitted (a .e) (a .finished) (now (a .records)) (a .packets) (passed (c .before .is-fitted .ensures) (c .if1 .left)) .1
 
 returns-2 : tie.Need-returns-2
 unfolding reclaimNo reclaimTests
