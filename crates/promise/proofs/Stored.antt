@@ -28,7 +28,9 @@ use Rattle.dock.specs.State.{idle, moved}
 use Rattle.dock.specs.Store.{stepped, settled, ringStored, finishedStored, firstCycle, storeNo}
 use Rattle.dock.specs.Stores.{trbCount, trbOf, setupTrb}
 use Rattle.dock.proofs.NextLaws.{is-next, store-admitted}
-use Rattle.dock.proofs.Reached.{State, stateOf, Sound, afterStore}
+use Rattle.dock.proofs.Reached.{Sound}
+use Rattle.dock.specs.Run.{State, stateOf, stores}
+use Rattle.dock.specs.Run as dock
 use Rattle.dock.proofs.RefusalLaws.{store-acts, store-refuses}
 use Rattle.dock.proofs.StepLaws.{step-works, setup-hidden, trb-current}
 use Rattle.order.specs.Flat.{flat, setCycle, setSlot}
@@ -586,7 +588,7 @@ module _ (w : World) (h : Sound (w .dock)) (k : Kept w) where
       by busy low (shows u) = stored-shown u
       by busy low (hides u) = stored-hidden u low
 
-  pub stored-kept : Kept (withDock w (afterStore (w .dock)))
+  pub stored-kept : Kept (withDock w (dock.after (w .dock) stores))
   stored-kept =
       ⊎-elim
       (λ (p : storeNo e (length (w .dock .ring)) (length (w .dock .finished)) (w .dock .records) (length packets) ≡ 0).
