@@ -53,7 +53,7 @@ use Rattle.dock.specs.Fit.{placesFit, fits, fitsWith, strays, Next, theL
 use Rattle.dock.specs.Make.{sized, makeTests, makeNo, make, zeros}
 use Rattle.dock.specs.Configure.{plainNo, configure}
 use Rattle.dock.specs.Requests.{recordFor}
-use Rattle.dock.specs.Start.{tooLong, isFull, startTests, startNo, recordTaken, numberFrom, idTaken, charged, begun, atLeastOne, writePackets, startedEndpoint, startedRecords, start, someOver, sumOf}
+use Rattle.dock.specs.Start.{tooLong, isFull, startTests, startNo, recordTaken, numberFrom, idTaken, charged, atLeastOne, writePackets, startedEndpoint, startedRecords, start, someOver, sumOf}
 use Rattle.dock.specs.Stores.{setupTrb, trbOf}
 use Rattle.dock.specs.Store.{storeTests, storeNo, stepped, ringStored, finishedStored, settled, firstCycle}
 use Rattle.dock.specs.Store as storing

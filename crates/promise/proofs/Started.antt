@@ -28,7 +28,7 @@ use Rattle.dock.specs.Start.{startNo, recordTaken, idTaken, charged, writePacke
 use Rattle.dock.specs.Stores.{trbCount}
 use Rattle.dock.proofs.BooksLaws.{by-flies}
 use Rattle.dock.proofs.Reached.{Sound}
-use Rattle.dock.specs.Run.{State, stateOf}
+use Rattle.dock.specs.Run.{stateOf}
 use Rattle.dock.specs.Run as dock
 use Rattle.dock.proofs.RefusalLaws.{start-acts, start-refuses}
 use Rattle.dock.proofs.StartLaws.{Starting, start-admitted, record-below, record-free, record-taken, record-written, records-kept}

@@ -1,7 +1,7 @@
--- A run: a dock that is made, calls of it in any order, refused or not, and steps of its controller anywhere, also between two stores. The premises
--- stand in `may`, and are document 01's: "an event handed over is for a TRB that the controller consumed, each at most once, in that order, coded
--- Success or Short Packet, between submissions". An event that the dock refuses is not bound by them, and one that comes while a submission is under way is
--- refused (12). Not every consumed TRB need have an event.
+-- A run: a dock that is made, any calls of it but retire and reset, in any order, refused or not, and steps of its controller anywhere, also between two
+-- stores. The premises stand in `may`, and are document 01's: "an event handed over is for a TRB that the controller consumed, each at most once, in that
+-- order, coded Success or Short Packet, between submissions". An event that the dock refuses is not bound by them, and one that comes while a submission is
+-- under way is refused (12). Not every consumed TRB need have an event.
 use Prim.Native.Nat.{ℕ, zero, suc, _+_}
 use mathlib.Core.Bool.{Bool, true, false, not, _&&_, _||_}
 use mathlib.Core.List.{List, [], _∷_, _++_}
@@ -48,14 +48,14 @@ admitted w = laidOut (slots w) 0 (w .trbs)
 
 -- ---- what a move does
 
--- What a call is to a run: the start of a submission, a store of the one that is under way, a call that is neither, or no call of these runs.
+-- What a call is to a run: the start of a submission, a store of the one that is under way, a call beside submissions, or no call of these runs.
 pub data Part : Type 0 where
   opening : Request → (lengths : List ℕ) → Part
   filling : Part
   aside : Part
   outside : Part
 
--- A whole submission comes as its start and stores, and an event with the number of its TRB. Retire and reset are not in these runs.
+-- A whole submission comes as its start and stores, and an event as a move of its own, with the number of its TRB. Retire and reset are not in these runs.
 abbrev pub part : Call → Part
 part (configures packet burst interval) = aside
 part (starts request lengths) = opening request lengths
