@@ -27,7 +27,8 @@ use Rattle.dock.specs.Worth.{bytes, worth}
 use Rattle.dock.specs.Residual.{Told, Tells, Writes, credit}
 use Rattle.dock.specs.HandOver.{slotNumber, slotFor, handOverNo, handOver}
 use Rattle.dock.specs.Reclaim.{codeOf, remainingOf, placeOf, counted, reclaim}
-use Rattle.dock.proofs.Reached.{State, afterHandOver, afterReclaim, Reached}
+use Rattle.dock.specs.Run.{State, hands, reclaims, Reached}
+use Rattle.dock.specs.Run as run
 use Rattle.dock.proofs.RetireLaws.{picked}
 use Rattle.dock.proofs.InvariantLaws.{slot-below, fill-long, slots-some, reached-sound}
 use Rattle.dock.proofs.FitLaws.{reclaim-number}
@@ -49,7 +50,7 @@ module _ {s : State} (h : Reached s) (idle : s .endpoint .work .busy ≡ false) 
   before k = packetAt (s .packets) r k
 
   abbrev after : ℕ → Packet
-  after k = packetAt (afterReclaim s id .packets) r k
+  after k = packetAt (run.after s (reclaims id) .packets) r k
 
   abbrev stands : ℕ → Finished
   stands k = finishedAt (s .finished) (placeOf (s .endpoint .shape .slots) (v .place) k)
@@ -87,7 +88,7 @@ other-places finished slot event within p d =
 pub event-elsewhere : {s : State} → Reached s → (event : Words) (id : ℕ)
     → ((r p : ℕ) → findIn (s .records) (s .endpoint .account .occupancy) id ≡ At r → Needed (s .endpoint) (s .packets) (recordAt (s .records) r) r p
     → p ≡ slotNumber (slotFor (s .endpoint) event) → ⊥)
-    → reclaim (s .endpoint) (afterHandOver s event .finished) (s .records) (s .packets) id ≡ reclaim (s .endpoint) (s .finished) (s .records) (s .packets) id
+    → reclaim (s .endpoint) (run.after s (hands event) .finished) (s .records) (s .packets) id ≡ reclaim (s .endpoint) (s .finished) (s .records) (s .packets) id
 unfolding handOver slotFor
 event-elsewhere {s} h event id apart =
     let e = s .endpoint in

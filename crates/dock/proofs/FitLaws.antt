@@ -55,12 +55,14 @@ use Rattle.dock.specs.Reclaim.{leave, nothing, badRecord, reclaimTests, 
 use Rattle.dock.specs.Cancel.{marked, cancelTests, cancelNo, cancel}
 use Rattle.dock.specs.Retire.{recordTests, recordNo, retiredBelow, retire}
 use Rattle.dock.specs.Reset.{beginNo, beginReset, endNo, endReset}
-use Rattle.dock.proofs.Reached.{State, stateOf, afterConfigure, afterStart, afterStore, afterHandOver, afterReclaim, afterCancel, afterRetire, afterBegin, afterEnd, Reached, made, configured, started, stored, handed, reclaimed, cancelled, retired, ended, flightPart, Sound}
-use Rattle.dock.proofs.Reached as reached
+use Rattle.dock.specs.Run.{State, stateOf, madeOf, Made, making, Call, configures, starts, stores, submits, hands, reclaims, cancels, retires, begins, ends, stops, resumes, points, Reached}
+use Rattle.dock.specs.Run as run
+use Rattle.dock.proofs.Reached.{flightPart, Sound, reached-has}
 use Rattle.dock.proofs.BooksLaws.{Alike, by-flies, still-held}
 use Rattle.dock.proofs.RetireLaws.{picked, none-flies, retired-none}
+use Rattle.dock.proofs.SubmitLaws.{submit-keeps}
 use Rattle.dock.proofs.ReclaimLaws.{Left, Measured, own-measured}
-use Rattle.dock.proofs.InvariantLaws.{either-true, both-false, left-true, right-true, by-true, by-not, by-fits, by-fits-with, place-slot, first-slot, stepped-follows, settled-follows, store-busy, taken, short, started-sound, fresh-sound, not-done, slots-some, marked-alike, Untouched, Looked, reclaim-result, reclaim-idle, reached-sound}
+use Rattle.dock.proofs.InvariantLaws.{either-true, both-false, left-true, right-true, by-true, by-not, by-fits, by-fits-with, place-slot, first-slot, stepped-follows, settled-follows, store-busy, taken, short, started-sound, fresh-sound, not-done, slots-some, marked-alike, Untouched, Looked, reclaim-result, reclaim-idle, after-sound, reached-sound}
 
 -- ---- places as facts on numbers
 
@@ -272,22 +274,19 @@ fresh-placed slots base mask slot dci ring finished records packets some = recor
 
 make-placed : (ring finished records packets : List ℕ) (slots base mask slot dci : ℕ)
     → make ring finished records packets slots base mask slot dci .0 .answer ≡ Done
-    → Placed
-    (stateOf
-    (make ring finished records packets slots base mask slot dci .0 .endpoint)
-    (make ring finished records packets slots base mask slot dci .1)
-    (make ring finished records packets slots base mask slot dci .2)
-    (make ring finished records packets slots base mask slot dci .3)
-    (make ring finished records packets slots base mask slot dci .4))
+    → Placed (madeOf (make ring finished records packets slots base mask slot dci))
 unfolding make
 make-placed ring finished records packets slots base mask slot dci =
     picked
-    (λ (t : Changed × List ℕ × List ℕ × List ℕ × List ℕ). t .0 .answer ≡ Done → Placed (stateOf (t .0 .endpoint) (t .1) (t .2) (t .3) (t .4)))
+    (λ (t : Changed × List ℕ × List ℕ × List ℕ × List ℕ). t .0 .answer ≡ Done → Placed (madeOf t))
     (eqb (makeNo (length ring) (length finished) (length records) (length packets) slots base slot dci) 0)
     _ _
     (λ t d. fresh-placed slots base mask slot dci (zeros ring) (zeros finished) (zeros records) (zeros packets)
     (slots-some _ (fresh-sound ring finished records packets slots base mask slot dci (eqb-true _ _ t))))
     (λ t d. absurd (not-done _ d))
+
+made-placed : (s : State) → Made s → Placed s
+made-placed s (making ring finished records packets slots base mask slot dci done) = make-placed ring finished records packets slots base mask slot dci done
 
 -- Calls that change only settings and flags, or tables that are no records.
 placed-parts : (s : State) (ring finished packets : List ℕ) (periodic : Periodic) (flags : Flags) → Placed s
@@ -306,14 +305,14 @@ placed-parts : (s : State) (ring finished packets : List ℕ) (periodic : Period
 unfolding placesFit strays nextOf
 placed-parts s ring finished packets periodic flags k = record { placing = k .placing; straight = k .straight; capacity = k .capacity; bounds = k .bounds }
 
-configure-placed : (s : State) (packet burst interval : ℕ) → Placed s → Placed (afterConfigure s packet burst interval)
+configure-placed : (s : State) (packet burst interval : ℕ) → Placed s → Placed (run.after s (configures packet burst interval))
 unfolding configure
 configure-placed s packet burst interval k =
     picked (λ (c : Changed). Placed (stateOf (c .endpoint) (s .ring) (s .finished) (s .records) (s .packets))) (eqb (plainNo (s .endpoint)) 0) _ _
     (λ t. placed-parts s (s .ring) (s .finished) (s .packets) _ _ k)
     (λ t. k)
 
-begin-placed : (s : State) → Placed s → Placed (afterBegin s)
+begin-placed : (s : State) → Placed s → Placed (run.after s begins)
 unfolding beginReset
 begin-placed s k =
     picked (λ (c : ResetBegun). Placed (stateOf (c .endpoint) (s .ring) (s .finished) (s .records) (s .packets))) (eqb (beginNo (s .endpoint) (s .records)) 0) _ _
@@ -322,14 +321,14 @@ begin-placed s k =
     (λ u. k))
     (λ t. k)
 
-end-placed : (s : State) (worked : Bool) → Placed s → Placed (afterEnd s worked)
+end-placed : (s : State) (worked : Bool) → Placed s → Placed (run.after s (ends worked))
 unfolding endReset
 end-placed s worked k =
     picked (λ (c : Changed). Placed (stateOf (c .endpoint) (s .ring) (s .finished) (s .records) (s .packets))) (eqb (endNo (s .endpoint)) 0) _ _
     (λ t. placed-parts s (s .ring) (s .finished) (s .packets) _ _ k)
     (λ t. k)
 
-hand-placed : (s : State) (event : Words) → Placed s → Placed (afterHandOver s event)
+hand-placed : (s : State) (event : Words) → Placed s → Placed (run.after s (hands event))
 hand-placed s event k = record { placing = k .placing; straight = k .straight; capacity = k .capacity; bounds = k .bounds }
 
 -- The start of a submission: its record has a TRB to store, and at most 64.
@@ -420,7 +419,7 @@ module _ (s : State) (request : Request) (lengths : List ℕ) (h : Sound s) (k :
         bounds = started-bounds;
       }
 
-start-placed : (s : State) (request : Request) (lengths : List ℕ) → Sound s → Placed s → Placed (afterStart s request lengths)
+start-placed : (s : State) (request : Request) (lengths : List ℕ) → Sound s → Placed s → Placed (run.after s (starts request lengths))
 unfolding start
 start-placed s request lengths h k =
     picked (λ (a : Changed × List ℕ × List ℕ). Placed (stateOf (a .0 .endpoint) (s .ring) (s .finished) (a .1) (a .2)))
@@ -429,7 +428,7 @@ start-placed s request lengths h k =
     (λ t. k)
 
 -- A store.
-store-placed : (s : State) → Sound s → Placed s → Placed (afterStore s)
+store-placed : (s : State) → Sound s → Placed s → Placed (run.after s stores)
 unfolding storing.store
 store-placed s h k =
     let e = s .endpoint in
@@ -479,7 +478,7 @@ marked-measured records (lookup.At q) r m =
       getD-set-other records (recordWords * q + 4) (recordWords * r + 6) 1 0 (λ e. omega arith),
     )
 
-cancel-placed : (s : State) (id : ℕ) → Placed s → Placed (afterCancel s id)
+cancel-placed : (s : State) (id : ℕ) → Placed s → Placed (run.after s (cancels id))
 unfolding cancel cancelNo cancelTests
 cancel-placed s id k =
     let e = s .endpoint in
@@ -488,7 +487,7 @@ cancel-placed s id k =
     (marked-alike (s .records) (findIn (s .records) (e .account .occupancy) id)) (marked-measured (s .records) (findIn (s .records) (e .account .occupancy) id)) (λ r l f. f))
     (λ t. k)
 
-retire-placed : (s : State) → Sound s → Placed s → Placed (afterRetire s)
+retire-placed : (s : State) → Sound s → Placed s → Placed (run.after s retires)
 unfolding retire recordNo recordTests placesFit
 retire-placed s h k =
     let e = s .endpoint in
@@ -514,7 +513,7 @@ leave-placed s r count halts records packets k idle alike measured l =
     idle-placed s (leave (s .endpoint) r count halts) records packets k (leave-places (s .endpoint) r count halts ∙ k .placing) idle refl (omega arith) alike measured
     (λ q m f. still-held (s .endpoint .account) (s .records) r l q f)
 
-reclaim-placed : (s : State) (id : ℕ) → Placed s → Placed (afterReclaim s id)
+reclaim-placed : (s : State) (id : ℕ) → Placed s → Placed (run.after s (reclaims id))
 reclaim-placed s id k =
     let t = reclaim (s .endpoint) (s .finished) (s .records) (s .packets) id in
     ⊎-elim
@@ -532,17 +531,25 @@ reclaim-placed s id k =
 
 -- ---- the theorem
 
+pub after-placed : (s : State) (c : Call) → Sound s → Placed s → Placed (run.after s c)
+after-placed s (configures packet burst interval) h k = configure-placed s packet burst interval k
+after-placed s (starts request lengths) h k = start-placed s request lengths h k
+after-placed s stores h k = store-placed s h k
+after-placed s (submits request lengths) h k =
+    submit-keeps (λ (t : State). Sound t × Placed t) (λ t b. (after-sound t stores (b .0), store-placed t (b .0) (b .1))) s request lengths (h, k)
+    (after-sound s (starts request lengths) h, start-placed s request lengths h k) .1
+after-placed s (hands event) h k = hand-placed s event k
+after-placed s (reclaims id) h k = reclaim-placed s id k
+after-placed s (cancels id) h k = cancel-placed s id k
+after-placed s retires h k = retire-placed s h k
+after-placed s begins h k = begin-placed s k
+after-placed s (ends worked) h k = end-placed s worked k
+after-placed s stops h k = k
+after-placed s resumes h k = k
+after-placed s points h k = k
+
 pub reached-placed : {s : State} → Reached s → Placed s
-reached-placed (made ring finished records packets slots base mask slot dci d) = make-placed ring finished records packets slots base mask slot dci d
-reached-placed (configured {s} r packet burst interval) = configure-placed s packet burst interval (reached-placed r)
-reached-placed (started {s} r request lengths) = start-placed s request lengths (reached-sound r) (reached-placed r)
-reached-placed (stored {s} r) = store-placed s (reached-sound r) (reached-placed r)
-reached-placed (handed {s} r event) = hand-placed s event (reached-placed r)
-reached-placed (reclaimed {s} r id) = reclaim-placed s id (reached-placed r)
-reached-placed (cancelled {s} r id) = cancel-placed s id (reached-placed r)
-reached-placed (retired {s} r) = retire-placed s (reached-sound r) (reached-placed r)
-reached-placed (reached.begun {s} r) = begin-placed s (reached-placed r)
-reached-placed (ended {s} r worked) = end-placed s worked (reached-placed r)
+reached-placed = reached-has Placed made-placed (λ s r c. after-placed s c (reached-sound r))
 
 -- The endpoint fits, alone and with its records,
 pub reached-fits : {s : State} → Reached s → fits (s .endpoint) ≡ true

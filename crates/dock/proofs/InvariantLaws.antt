@@ -53,7 +53,7 @@ use Rattle.dock.specs.Fit.{placesFit, fits, fitsWith, strays, Next, theL
 use Rattle.dock.specs.Make.{sized, makeTests, makeNo, make, zeros}
 use Rattle.dock.specs.Configure.{plainNo, configure}
 use Rattle.dock.specs.Requests.{recordFor}
-use Rattle.dock.specs.Start.{tooLong, isFull, startTests, startNo, recordTaken, numberFrom, idTaken, charged, begun, atLeastOne, writePackets, startedEndpoint, startedRecords, start, someOver, sumOf}
+use Rattle.dock.specs.Start.{tooLong, isFull, startTests, startNo, recordTaken, numberFrom, idTaken, charged, atLeastOne, writePackets, startedEndpoint, startedRecords, start, someOver, sumOf}
 use Rattle.dock.specs.Stores.{setupTrb, trbOf}
 use Rattle.dock.specs.Store.{storeTests, storeNo, stepped, ringStored, finishedStored, settled, firstCycle}
 use Rattle.dock.specs.Store as storing
@@ -62,10 +62,11 @@ use Rattle.dock.specs.Reclaim.{leave, nothing, badRecord, reclaimTests, 
 use Rattle.dock.specs.Cancel.{marked, cancelNo, cancel}
 use Rattle.dock.specs.Retire.{recordTests, recordNo, retiredBelow, retire}
 use Rattle.dock.specs.Reset.{beginNo, beginReset, endNo, endReset}
-use Rattle.dock.proofs.Reached.{State, stateOf, afterConfigure, afterStart, afterStore, afterHandOver, afterReclaim, afterCancel, afterRetire, afterBegin, afterEnd, Reached, made, configured, started, stored, handed, reclaimed, cancelled, retired, ended, flightPart, flightSum, Books, Sound}
-use Rattle.dock.proofs.Reached as reached
+use Rattle.dock.specs.Run.{State, stateOf, madeOf, Made, making, Call, configures, starts, stores, submits, hands, reclaims, cancels, retires, begins, ends, stops, resumes, points, after, Reached}
+use Rattle.dock.proofs.Reached.{flightPart, flightSum, Books, Sound, reached-has}
 use Rattle.dock.proofs.BooksLaws.{Alike, alike-same, alike-set, flies-alike, books-alike, books-freed, books-taken, taken-long, taken-flies, part-flies, part-none}
 use Rattle.dock.proofs.RetireLaws.{picked, sum-none, retiring, books-retired}
+use Rattle.dock.proofs.SubmitLaws.{submit-keeps}
 use Rattle.dock.proofs.ReclaimLaws.{final, Left, own-record-same, own-packets-same, Touches, flying-touches}
 
 -- ---- tests that were passed
@@ -154,32 +155,29 @@ module _ (ring finished records packets : List ℕ) (slots base mask slot dci : 
       }
 
   make-sound : make ring finished records packets slots base mask slot dci .0 .answer ≡ Done
-      → Sound
-      (stateOf
-      (make ring finished records packets slots base mask slot dci .0 .endpoint)
-      (make ring finished records packets slots base mask slot dci .1)
-      (make ring finished records packets slots base mask slot dci .2)
-      (make ring finished records packets slots base mask slot dci .3)
-      (make ring finished records packets slots base mask slot dci .4))
+      → Sound (madeOf (make ring finished records packets slots base mask slot dci))
   unfolding make
   make-sound =
       picked
-      (λ (t : Changed × List ℕ × List ℕ × List ℕ × List ℕ). t .0 .answer ≡ Done → Sound (stateOf (t .0 .endpoint) (t .1) (t .2) (t .3) (t .4)))
+      (λ (t : Changed × List ℕ × List ℕ × List ℕ × List ℕ). t .0 .answer ≡ Done → Sound (madeOf t))
       (eqb (makeNo (length ring) (length finished) (length records) (length packets) slots base slot dci) 0)
       _ _
       (λ t d. fresh-sound (eqb-true _ _ t))
       (λ t d. absurd (not-done _ d))
 
+made-sound : (s : State) → Made s → Sound s
+made-sound s (making ring finished records packets slots base mask slot dci done) = make-sound ring finished records packets slots base mask slot dci done
+
 -- ---- configuring and resetting
 
-configure-sound : (s : State) (packet burst interval : ℕ) → Sound s → Sound (afterConfigure s packet burst interval)
+configure-sound : (s : State) (packet burst interval : ℕ) → Sound s → Sound (after s (configures packet burst interval))
 unfolding configure
 configure-sound s packet burst interval h =
     picked (λ (c : Changed). Sound (stateOf (c .endpoint) (s .ring) (s .finished) (s .records) (s .packets))) (eqb (plainNo (s .endpoint)) 0) _ _
     (λ t. follows-sound s _ (s .ring) (s .finished) h (record { shape = refl; who = refl; account = refl; work = λ b. (b, refl) }) refl refl)
     (λ t. h)
 
-begin-sound : (s : State) → Sound s → Sound (afterBegin s)
+begin-sound : (s : State) → Sound s → Sound (after s begins)
 unfolding beginReset
 begin-sound s h =
     picked (λ (c : ResetBegun). Sound (stateOf (c .endpoint) (s .ring) (s .finished) (s .records) (s .packets))) (eqb (beginNo (s .endpoint) (s .records)) 0) _ _
@@ -188,7 +186,7 @@ begin-sound s h =
     (λ u. h))
     (λ t. h)
 
-end-sound : (s : State) (worked : Bool) → Sound s → Sound (afterEnd s worked)
+end-sound : (s : State) (worked : Bool) → Sound s → Sound (after s (ends worked))
 unfolding endReset
 end-sound s worked h =
     picked (λ (c : Changed). Sound (stateOf (c .endpoint) (s .ring) (s .finished) (s .records) (s .packets))) (eqb (endNo (s .endpoint)) 0) _ _
@@ -254,7 +252,7 @@ module _ (s : State) (request : Request) (lengths : List ℕ) (h : Sound s)
         };
       }
 
-start-sound : (s : State) (request : Request) (lengths : List ℕ) → Sound s → Sound (afterStart s request lengths)
+start-sound : (s : State) (request : Request) (lengths : List ℕ) → Sound s → Sound (after s (starts request lengths))
 unfolding start
 start-sound s request lengths h =
     picked (λ (a : Changed × List ℕ × List ℕ). Sound (stateOf (a .0 .endpoint) (s .ring) (s .finished) (a .1) (a .2)))
@@ -354,7 +352,7 @@ module _ (s : State) (h : Sound s) where
       let all = both (both (both (by-fits-with e (s .records)) (by-eqb (length (s .ring)) (ringSize (e .shape .slots)))) (by-eqb (length (s .finished)) (ringSize (e .shape .slots)))) (by-eqb (length (s .packets)) packetsSize) .so row in
       by-fits e .so (all .0 .0 .0 .0 .0) .0 .1
 
-  store-sound : Sound (afterStore s)
+  store-sound : Sound (after s stores)
   unfolding storing.store
   store-sound =
       let e = s .endpoint in
@@ -392,7 +390,7 @@ slots-some s h =
     let slots = s .endpoint .shape .slots in
     both (both (both (by-leb 3 slots) (by-leb slots 4096)) (by-true _)) (by-true _) .so (h .limits) .0 .0 .0
 
-hand-sound : (s : State) (event : Words) → Sound s → Sound (afterHandOver s event)
+hand-sound : (s : State) (event : Words) → Sound s → Sound (after s (hands event))
 unfolding handOver slotFor
 hand-sound s event h =
     let e = s .endpoint in
@@ -421,7 +419,7 @@ alike-sound s records packets h k p = record {
   underway = λ b. let w = h .underway b in record { within = w .within; flying = flies-alike (s .records) records (s .endpoint .account .occupancy) (s .endpoint .work .number) k ∙ w .flying };
 }
 
-cancel-sound : (s : State) (id : ℕ) → Sound s → Sound (afterCancel s id)
+cancel-sound : (s : State) (id : ℕ) → Sound s → Sound (after s (cancels id))
 unfolding cancel
 cancel-sound s id h =
     let e = s .endpoint in
@@ -431,7 +429,7 @@ cancel-sound s id h =
 
 -- ---- a retire
 
-retire-sound : (s : State) → Sound s → Sound (afterRetire s)
+retire-sound : (s : State) → Sound s → Sound (after s retires)
 unfolding retire recordNo recordTests
 retire-sound s h =
     let e = s .endpoint in
@@ -564,7 +562,7 @@ leave-sound s r halts l h idle = record {
   underway = λ b. absurd (never-both b idle);
 }
 
-reclaim-sound : (s : State) (id : ℕ) → Sound s → Sound (afterReclaim s id)
+reclaim-sound : (s : State) (id : ℕ) → Sound s → Sound (after s (reclaims id))
 reclaim-sound s id h =
     let t = reclaim (s .endpoint) (s .finished) (s .records) (s .packets) id in
     ⊎-elim
@@ -582,14 +580,22 @@ reclaim-sound s id h =
 
 -- ---- the theorem
 
+-- Every call keeps the invariant,
+pub after-sound : (s : State) (c : Call) → Sound s → Sound (after s c)
+after-sound s (configures packet burst interval) h = configure-sound s packet burst interval h
+after-sound s (starts request lengths) h = start-sound s request lengths h
+after-sound s stores h = store-sound s h
+after-sound s (submits request lengths) h = submit-keeps Sound store-sound s request lengths h (start-sound s request lengths h)
+after-sound s (hands event) h = hand-sound s event h
+after-sound s (reclaims id) h = reclaim-sound s id h
+after-sound s (cancels id) h = cancel-sound s id h
+after-sound s retires h = retire-sound s h
+after-sound s begins h = begin-sound s h
+after-sound s (ends worked) h = end-sound s worked h
+after-sound s stops h = h
+after-sound s resumes h = h
+after-sound s points h = h
+
+-- so every state that is reached has it.
 pub reached-sound : {s : State} → Reached s → Sound s
-reached-sound (made ring finished records packets slots base mask slot dci d) = make-sound ring finished records packets slots base mask slot dci d
-reached-sound (configured {s} r packet burst interval) = configure-sound s packet burst interval (reached-sound r)
-reached-sound (started {s} r request lengths) = start-sound s request lengths (reached-sound r)
-reached-sound (stored {s} r) = store-sound s (reached-sound r)
-reached-sound (handed {s} r event) = hand-sound s event (reached-sound r)
-reached-sound (reclaimed {s} r id) = reclaim-sound s id (reached-sound r)
-reached-sound (cancelled {s} r id) = cancel-sound s id (reached-sound r)
-reached-sound (retired {s} r) = retire-sound s (reached-sound r)
-reached-sound (reached.begun {s} r) = begin-sound s (reached-sound r)
-reached-sound (ended {s} r worked) = end-sound s worked (reached-sound r)
+reached-sound = reached-has Sound made-sound (λ s r. after-sound s)

@@ -26,7 +26,7 @@ use Rattle.dock.specs.declared.Reclaimed.the-variants as answer
 use Rattle.dock.specs.declared.ReclaimedOne.{ReclaimedOne}
 use Rattle.dock.specs.Worth.{accepted}
 use Rattle.dock.specs.Reclaim.{completion, complete, codeOf, bulkBy, reclaimBulk, Seen, onward, ends, stageBy, statusBy, recordedBy, statusPlace, dataSeen, afterStage, reclaimControl, Swept, unfinished, fatal, found, sweep, sweptAnswer, reclaimIso, reclaimNo, reclaimFlying, reclaimFound, reclaim}
-use Rattle.dock.proofs.Reached.{State, afterReclaim, Reached}
+use Rattle.dock.specs.Run.{State, reclaims, after, Reached}
 use Rattle.dock.proofs.BooksLaws.{by-flies}
 use Rattle.dock.proofs.RetireLaws.{picked}
 use Rattle.dock.proofs.ReclaimLaws.{Measured}
@@ -150,7 +150,7 @@ module _ {s : State} (h : Reached s) (id r : ℕ) (l : r < recordCount) (has : H
 
   -- and of an ISO request the sum of its packets.
   pub reclaim-total : recordAt (s .records) r .kind ≡ isoch → result .0 .answer ≡ answer.Done c
-      → c .length ≡ sum (recordAt (s .records) r .count) (λ (k : ℕ). packetAt (afterReclaim s id .packets) r k .actual)
+      → c .length ≡ sum (recordAt (s .records) r .count) (λ (k : ℕ). packetAt (after s (reclaims id) .packets) r k .actual)
   reclaim-total kind d =
       flying-total (s .endpoint) (recordAt (s .records) r) r c (s .finished) (s .records) (s .packets) kind (answered d)
       ∙ ap (λ (t : ReclaimedOne × List ℕ × List ℕ). sum (recordAt (s .records) r .count) (λ (k : ℕ). packetAt (t .2) r k .actual)) (sym (flown d .1))

@@ -1,4 +1,5 @@
 -- The laws of the definitions, the states that are reached from making, and the readings from the bench.
+pub mod AnsweredLaws
 pub mod AskedLaws
 pub mod BooksLaws
 pub mod CompletionLaws

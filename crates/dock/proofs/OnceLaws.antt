@@ -34,7 +34,8 @@ use Rattle.dock.specs.Start.{idTaken}
 use Rattle.dock.specs.Reclaim.{leave, nothing, badRecord, reclaimTests, reclaimNo, reclaimFound, reclaim}
 use Rattle.dock.specs.Cancel.{cancelTests, cancelNo, cancel}
 use Rattle.dock.specs.Retire.{recordTests, recordNo, retiredBelow, retire}
-use Rattle.dock.proofs.Reached.{State, afterReclaim, afterRetire, Reached, reclaimed, retired, flightPart, flightSum, Sound}
+use Rattle.dock.specs.Run.{State, reclaims, retires, after, Reached, next}
+use Rattle.dock.proofs.Reached.{flightPart, flightSum, Sound}
 use Rattle.dock.proofs.BooksLaws.{Alike, freed-here, freed-other, freed-exact}
 use Rattle.dock.proofs.RetireLaws.{picked, retiredAccount, retired-none, retired-stopped, retiring}
 use Rattle.dock.proofs.ReclaimLaws.{final, Left}
@@ -206,9 +207,9 @@ module _ (s : State) (h : Sound s) (id : ℕ) where
 
 -- A request that has been answered Done, Cancelled, Failed or Mismatch is answered `Nothing` (10) when it is reclaimed again, and nothing changes.
 pub reclaimed-once : {s : State} → Reached s → (id : ℕ) → final (reclaim (s .endpoint) (s .finished) (s .records) (s .packets) id .0 .answer) ≡ true
-    → let t = afterReclaim s id in reclaim (t .endpoint) (t .finished) (t .records) (t .packets) id ≡ (nothing (t .endpoint), t .records, t .packets)
+    → let t = after s (reclaims id) in reclaim (t .endpoint) (t .finished) (t .records) (t .packets) id ≡ (nothing (t .endpoint), t .records, t .packets)
 reclaimed-once {s} h id over =
-    not-held-nothing (afterReclaim s id) (reached-sound (reclaimed h id)) (then-ready s (reached-sound h) id over) id (then-not-held s (reached-sound h) id over)
+    not-held-nothing (after s (reclaims id)) (reached-sound (next h (reclaims id))) (then-ready s (reached-sound h) id over) id (then-not-held s (reached-sound h) id over)
 
 -- ---- a reclaim touches no other request
 
@@ -235,7 +236,7 @@ held-found s h id r l has =
 
 -- The words of every record that has not the id are as they were,
 pub reclaim-other-record : {s : State} → Reached s → (id q k : ℕ) → q < recordCount → k < recordWords → (Has s id q → ⊥)
-    → wordAt (afterReclaim s id .records) q k ≡ wordAt (s .records) q k
+    → wordAt (after s (reclaims id) .records) q k ≡ wordAt (s .records) q k
 reclaim-other-record {s} h id q k l m other =
     let t = reclaim (s .endpoint) (s .finished) (s .records) (s .packets) id in
     ⊎-elim
@@ -245,7 +246,7 @@ reclaim-other-record {s} h id q k l m other =
 
 -- and so are its packets.
 pub reclaim-other-packets : {s : State} → Reached s → (id q k : ℕ) → q < recordCount → k < packetCount → (Has s id q → ⊥)
-    → packetAt (afterReclaim s id .packets) q k ≡ packetAt (s .packets) q k
+    → packetAt (after s (reclaims id) .packets) q k ≡ packetAt (s .packets) q k
 reclaim-other-packets {s} h id q k l m other =
     let t = reclaim (s .endpoint) (s .finished) (s .records) (s .packets) id in
     ⊎-elim
@@ -256,14 +257,14 @@ reclaim-other-packets {s} h id q k l m other =
 -- The count of a request that is over is taken off outstanding, exactly: the difference does not stop at 0.
 pub reclaimed-takes : {s : State} → Reached s → (id r : ℕ) → r < recordCount → Has s id r
     → final (reclaim (s .endpoint) (s .finished) (s .records) (s .packets) id .0 .answer) ≡ true
-    → afterReclaim s id .endpoint .account .outstanding + flightPart (s .records) (s .endpoint .account .occupancy) r ≡ s .endpoint .account .outstanding
+    → after s (reclaims id) .endpoint .account .outstanding + flightPart (s .records) (s .endpoint .account .occupancy) r ≡ s .endpoint .account .outstanding
 unfolding leave
 reclaimed-takes {s} h id r l has over =
     let a = s .endpoint .account in
     let g = over-gone s (reached-sound h) id over in
     let same : g .number ≡ r = ids-distinct h (g .number) r (g .within) l (g .held) (has .0) (g .named ∙ sym (has .1)) in
     let part = freeing-exact h r l in
-    let after : afterReclaim s id .endpoint .account .outstanding ≡ a .outstanding - flightPart (s .records) (a .occupancy) (g .number) =
+    let left : after s (reclaims id) .endpoint .account .outstanding ≡ a .outstanding - flightPart (s .records) (a .occupancy) (g .number) =
     ap (λ (e : Endpoint). e .account .outstanding) (g .left) in
     omega (arith, ap (flightPart (s .records) (a .occupancy)) same)
 
@@ -289,7 +290,7 @@ module _ {s : State} (h : Reached s) (idle : s .endpoint .work .busy ≡ false) 
   stopped-reclaimed = stopped-cancelled s (reached-sound h) (reached-ready h idle) id r (held-found s (reached-sound h) id r l has) stops
 
   -- once,
-  pub stopped-once : let t = afterReclaim s id in reclaim (t .endpoint) (t .finished) (t .records) (t .packets) id ≡ (nothing (t .endpoint), t .records, t .packets)
+  pub stopped-once : let t = after s (reclaims id) in reclaim (t .endpoint) (t .finished) (t .records) (t .packets) id ≡ (nothing (t .endpoint), t .records, t .packets)
   stopped-once = reclaimed-once h id (ap (λ (x : ReclaimedOne × List ℕ × List ℕ). final (x .0 .answer)) stopped-reclaimed)
 
   -- and cannot be cancelled (6).
@@ -320,16 +321,16 @@ module _ (s : State) (h : Sound s) where
   unfolding retire
   retire-is t = rw (eq-eqb _ _ t)
 
-  retired-idle : recordNo (s .endpoint) (s .records) ≡ 0 → afterRetire s .endpoint .work .busy ≡ false
+  retired-idle : recordNo (s .endpoint) (s .records) ≡ 0 → after s retires .endpoint .work .busy ≡ false
   retired-idle t = rw (retire-is t) (retire-idle t)
 
-  retired-has : recordNo (s .endpoint) (s .records) ≡ 0 → (r : ℕ) → bit (s .endpoint .account .occupancy) r ≡ 1 → Has (afterRetire s) (idAt (s .records) r) r
+  retired-has : recordNo (s .endpoint) (s .records) ≡ 0 → (r : ℕ) → bit (s .endpoint .account .occupancy) r ≡ 1 → Has (after s retires) (idAt (s .records) r) r
   retired-has t r held =
       let all = retiring (s .endpoint .account .occupancy) (s .endpoint .account .outstanding) (s .records) (h .recordsLong) recordCount (omega arith) in
       rw (retire-is t) (held, all .id r)
 
 -- A retire that is done leaves outstanding 0,
-pub retire-empties : {s : State} → Reached s → retire (s .endpoint) (s .records) .0 .answer ≡ Done → afterRetire s .endpoint .account .outstanding ≡ 0
+pub retire-empties : {s : State} → Reached s → retire (s .endpoint) (s .records) .0 .answer ≡ Done → after s retires .endpoint .account .outstanding ≡ 0
 retire-empties {s} h done =
     let sound = reached-sound h in
     let t = retire-passed s sound done in
@@ -337,14 +338,14 @@ retire-empties {s} h done =
 
 -- the records held that were,
 pub retire-holds : {s : State} → Reached s → retire (s .endpoint) (s .records) .0 .answer ≡ Done
-    → afterRetire s .endpoint .account .occupancy ≡ s .endpoint .account .occupancy
+    → after s retires .endpoint .account .occupancy ≡ s .endpoint .account .occupancy
 retire-holds {s} h done =
     let sound = reached-sound h in
     rw (retire-is s sound (retire-passed s sound done))
 
 -- and each of them stopped.
 pub retire-stops : {s : State} → Reached s → retire (s .endpoint) (s .records) .0 .answer ≡ Done
-    → (r : ℕ) → r < recordCount → bit (s .endpoint .account .occupancy) r ≡ 1 → recordAt (afterRetire s .records) r .state ≡ stopped
+    → (r : ℕ) → r < recordCount → bit (s .endpoint .account .occupancy) r ≡ 1 → recordAt (after s retires .records) r .state ≡ stopped
 retire-stops {s} h done r l held =
     let sound = reached-sound h in
     let t = retire-passed s sound done in
@@ -353,8 +354,8 @@ retire-stops {s} h done r l held =
 -- So the id of a record that was held is reclaimed as `Cancelled` (7), once, and cannot be cancelled (6).
 module _ {s : State} (h : Reached s) (done : retire (s .endpoint) (s .records) .0 .answer ≡ Done) (r : ℕ) (l : r < recordCount)
     (held : bit (s .endpoint .account .occupancy) r ≡ 1) where
-  abbrev after : State
-  after = afterRetire s
+  abbrev t : State
+  t = after s retires
 
   abbrev its : ℕ
   its = idAt (s .records) r
@@ -362,18 +363,18 @@ module _ {s : State} (h : Reached s) (done : retire (s .endpoint) (s .records) .
   passed : recordNo (s .endpoint) (s .records) ≡ 0
   passed = retire-passed s (reached-sound h) done
 
-  idle-after : after .endpoint .work .busy ≡ false
-  idle-after = retired-idle s (reached-sound h) passed
+  idle-then : t .endpoint .work .busy ≡ false
+  idle-then = retired-idle s (reached-sound h) passed
 
-  has-after : Has after its r
-  has-after = retired-has s (reached-sound h) passed r held
+  has-then : Has t its r
+  has-then = retired-has s (reached-sound h) passed r held
 
-  pub retired-cancelled : reclaim (after .endpoint) (after .finished) (after .records) (after .packets) its .0 .answer ≡ answer.Cancelled
+  pub retired-cancelled : reclaim (t .endpoint) (t .finished) (t .records) (t .packets) its .0 .answer ≡ answer.Cancelled
   retired-cancelled =
-      ap (λ (x : ReclaimedOne × List ℕ × List ℕ). x .0 .answer) (stopped-reclaimed (retired h) idle-after its r l has-after (retire-stops h done r l held))
+      ap (λ (x : ReclaimedOne × List ℕ × List ℕ). x .0 .answer) (stopped-reclaimed (next h retires) idle-then its r l has-then (retire-stops h done r l held))
 
-  pub retired-once : let t = afterReclaim after its in reclaim (t .endpoint) (t .finished) (t .records) (t .packets) its ≡ (nothing (t .endpoint), t .records, t .packets)
-  retired-once = stopped-once (retired h) idle-after its r l has-after (retire-stops h done r l held)
+  pub retired-once : let u = after t (reclaims its) in reclaim (u .endpoint) (u .finished) (u .records) (u .packets) its ≡ (nothing (u .endpoint), u .records, u .packets)
+  retired-once = stopped-once (next h retires) idle-then its r l has-then (retire-stops h done r l held)
 
-  pub retired-not-cancellable : cancel (after .endpoint) (after .records) its ≡ (Refused 6, after .records)
-  retired-not-cancellable = stopped-refuses-cancel (retired h) idle-after its r l has-after (retire-stops h done r l held)
+  pub retired-not-cancellable : cancel (t .endpoint) (t .records) its ≡ (Refused 6, t .records)
+  retired-not-cancellable = stopped-refuses-cancel (next h retires) idle-then its r l has-then (retire-stops h done r l held)

@@ -1,7 +1,6 @@
--- The states of a dock: an endpoint with its four tables; those that are reached from making by any calls, refused or not; and the invariant that
--- `reached-sound` proves of them. Assumes nothing.
+-- The invariant of a dock's states, which `reached-sound` proves of those that are reached from making, and the induction over them. Assumes nothing.
 use Prim.Native.Nat.{ℕ, _^_, _<_}
-use mathlib.Core.Bool.{Bool, true}
+use mathlib.Core.Bool.{true}
 use mathlib.Core.List.{List}
 use mathlib.Core.Logic.{_⊎_}
 use mathlib.Core.Path.{_≡_}
@@ -9,104 +8,11 @@ use lib.ListN.{length}
 use Rattle.base.specs.First.{pick}
 use Rattle.mask.specs.Bit.{bit, sum}
 use Rattle.ids.specs.Free.{recordCount, idAt}
-use Rattle.trb.specs.declared.Words.{Words}
 use Rattle.records.specs.Records.{inFlight, stopped, recordAt}
 use Rattle.dock.specs.declared.Account.{Account}
-use Rattle.dock.specs.declared.Endpoint.{Endpoint}
-use Rattle.dock.specs.declared.Outcome.the-variants.{Done}
-use Rattle.dock.specs.declared.Request.{Request}
 use Rattle.dock.specs.Limits.{limitsHold, ringSize, recordsSize, packetsSize}
 use Rattle.dock.specs.Fit.{flies}
-use Rattle.dock.specs.Make.{make}
-use Rattle.dock.specs.Configure.{configure}
-use Rattle.dock.specs.Start.{start}
-use Rattle.dock.specs.Store.{store}
-use Rattle.dock.specs.Submit.{submit}
-use Rattle.dock.specs.HandOver.{handOver}
-use Rattle.dock.specs.Reclaim.{reclaim}
-use Rattle.dock.specs.Cancel.{cancel}
-use Rattle.dock.specs.Retire.{retire}
-use Rattle.dock.specs.Reset.{beginReset, endReset}
-
--- ---- states
-
-pub record State : Type 0 where
-  pub endpoint : Endpoint
-  pub ring : List ℕ
-  pub finished : List ℕ
-  pub records : List ℕ
-  pub packets : List ℕ
-
-abbrev pub stateOf : Endpoint → List ℕ → List ℕ → List ℕ → List ℕ → State
-stateOf e ring finished records packets =
-    record { endpoint = e; ring = ring; finished = finished; records = records; packets = packets }
-
--- The state after each call.
-
-abbrev pub afterConfigure : State → ℕ → ℕ → ℕ → State
-afterConfigure s packet burst interval =
-    stateOf (configure (s .endpoint) packet burst interval .endpoint) (s .ring) (s .finished) (s .records) (s .packets)
-
-abbrev pub afterStart : State → Request → List ℕ → State
-afterStart s request lengths =
-    let a = start (s .endpoint) (s .records) (s .packets) request lengths in
-    stateOf (a .0 .endpoint) (s .ring) (s .finished) (a .1) (a .2)
-
-abbrev pub afterStore : State → State
-afterStore s =
-    let a = store (s .endpoint) (s .ring) (s .finished) (s .records) (s .packets) in
-    stateOf (a .0 .endpoint) (a .1) (a .2) (s .records) (s .packets)
-
-abbrev pub afterSubmit : State → Request → List ℕ → State
-afterSubmit s request lengths =
-    let a = submit (s .endpoint) (s .ring) (s .finished) (s .records) (s .packets) request lengths in
-    stateOf (a .0 .endpoint) (a .1) (a .2) (a .3) (a .4)
-
-abbrev pub afterHandOver : State → Words → State
-afterHandOver s event =
-    stateOf (s .endpoint) (s .ring) (handOver (s .endpoint) (s .finished) event .1) (s .records) (s .packets)
-
-abbrev pub afterReclaim : State → ℕ → State
-afterReclaim s id =
-    let a = reclaim (s .endpoint) (s .finished) (s .records) (s .packets) id in
-    stateOf (a .0 .endpoint) (s .ring) (s .finished) (a .1) (a .2)
-
-abbrev pub afterCancel : State → ℕ → State
-afterCancel s id = stateOf (s .endpoint) (s .ring) (s .finished) (cancel (s .endpoint) (s .records) id .1) (s .packets)
-
-abbrev pub afterRetire : State → State
-afterRetire s =
-    let a = retire (s .endpoint) (s .records) in
-    stateOf (a .0 .endpoint) (s .ring) (s .finished) (a .1) (s .packets)
-
-abbrev pub afterBegin : State → State
-afterBegin s = stateOf (beginReset (s .endpoint) (s .records) .endpoint) (s .ring) (s .finished) (s .records) (s .packets)
-
-abbrev pub afterEnd : State → Bool → State
-afterEnd s worked = stateOf (endReset (s .endpoint) worked .endpoint) (s .ring) (s .finished) (s .records) (s .packets)
-
--- ---- reached from making
-
--- Stop, resume and pointer change nothing, and a whole submission is a start and stores (`submit-reached`): they have no case here.
-pub data Reached : State → Type 0 where
-  made : (ring finished records packets : List ℕ) (slots base mask slot dci : ℕ)
-      → make ring finished records packets slots base mask slot dci .0 .answer ≡ Done
-      → Reached
-      (stateOf
-      (make ring finished records packets slots base mask slot dci .0 .endpoint)
-      (make ring finished records packets slots base mask slot dci .1)
-      (make ring finished records packets slots base mask slot dci .2)
-      (make ring finished records packets slots base mask slot dci .3)
-      (make ring finished records packets slots base mask slot dci .4))
-  configured : {s : State} → Reached s → (packet burst interval : ℕ) → Reached (afterConfigure s packet burst interval)
-  started : {s : State} → Reached s → (request : Request) (lengths : List ℕ) → Reached (afterStart s request lengths)
-  stored : {s : State} → Reached s → Reached (afterStore s)
-  handed : {s : State} → Reached s → (event : Words) → Reached (afterHandOver s event)
-  reclaimed : {s : State} → Reached s → (id : ℕ) → Reached (afterReclaim s id)
-  cancelled : {s : State} → Reached s → (id : ℕ) → Reached (afterCancel s id)
-  retired : {s : State} → Reached s → Reached (afterRetire s)
-  begun : {s : State} → Reached s → Reached (afterBegin s)
-  ended : {s : State} → Reached s → (worked : Bool) → Reached (afterEnd s worked)
+use Rattle.dock.specs.Run.{State, Made, Call, after, Reached, made, next}
 
 -- ---- the invariant
 
@@ -146,3 +52,11 @@ pub record Sound (s : State) : Type 0 where
   pub packetsLong : length (s .packets) ≡ packetsSize
   pub books : Books (s .endpoint .account) (s .records)
   pub underway : s .endpoint .work .busy ≡ true → Underway (s .endpoint .work .number) (s .endpoint .account .occupancy) (s .records)
+
+-- ---- the induction
+
+-- What every making that is done leaves, and every call keeps, holds in every state that is reached.
+pub reached-has : {s : State} (P : State → Type 0) → ((s : State) → Made s → P s) → ((s : State) → Reached s → (c : Call) → P s → P (after s c))
+    → Reached s → P s
+reached-has P first then (made {s} m) = first s m
+reached-has P first then (next {s} r c) = then s r c (reached-has P first then r)

@@ -32,8 +32,9 @@ use Rattle.dock.specs.Make.{zeros, makeNo, make}
 use Rattle.dock.specs.Start.{tooLong, atLeastOne, writePackets, recordTaken, startNo, start}
 use Rattle.dock.specs.Worth.{Worth, bytes, refused, worth}
 use Rattle.dock.specs.Reclaim.{codeOf, remainingOf, placeOf, Swept, sweep, reclaimIso, reclaimNo, reclaimFlying, reclaimFound, reclaim}
-use Rattle.dock.proofs.Reached as reached
-use Rattle.dock.proofs.Reached.{State, afterStart, Reached, made, configured, started, stored, handed, reclaimed, cancelled, retired, ended}
+use Rattle.dock.specs.Run.{State, Made, making, Call, configures, starts, stores, submits, hands, reclaims, cancels, retires, begins, ends, stops, resumes, points, after, Reached}
+use Rattle.dock.proofs.Reached.{reached-has}
+use Rattle.dock.proofs.SubmitLaws.{submit-keeps}
 use Rattle.dock.proofs.InvariantLaws.{not-done}
 use Rattle.dock.proofs.AskedLaws.{packet-short, one-short, packet-written, packet-behind, others-packets-kept}
 use Rattle.dock.proofs.StartLaws.{start-admitted}
@@ -151,7 +152,7 @@ module _ (packets : List ℕ) (r : ℕ) (lengths : List ℕ) (sized : length pac
       (λ (d : q ≡ r → ⊥). rw (others-packets-kept packets r lengths sized below request short q k small d) (m q k l small))
       (same-or-not q r)
 
-start-modest : (s : State) (request : Request) (lengths : List ℕ) → Modest (s .packets) → Modest (afterStart s request lengths .packets)
+start-modest : (s : State) (request : Request) (lengths : List ℕ) → Modest (s .packets) → Modest (after s (starts request lengths) .packets)
 unfolding start
 start-modest s request lengths m =
     picked (λ (a : Changed × List ℕ × List ℕ). Modest (a .2)) (eqb (startNo (s .endpoint) (s .records) (length (s .packets)) request lengths) 0) _ _
@@ -179,16 +180,26 @@ make-modest ring finished records packets slots base mask slot dci =
     (eqb (makeNo (length ring) (length finished) (length records) (length packets) slots base slot dci) 0) _ _
     (λ t d. zeros-modest packets) (λ t d. absurd (not-done _ d))
 
+made-modest : (s : State) → Made s → Modest (s .packets)
+made-modest s (making ring finished records packets slots base mask slot dci done) = make-modest ring finished records packets slots base mask slot dci done
+
 -- ---- the theorem
 
+pub after-modest : (s : State) (c : Call) → Modest (s .packets) → Modest (after s c .packets)
+after-modest s (configures packet burst interval) m = m
+after-modest s (starts request lengths) m = start-modest s request lengths m
+after-modest s stores m = m
+after-modest s (submits request lengths) m =
+    submit-keeps (λ (t : State). Modest (t .packets)) (λ t k. k) s request lengths m (start-modest s request lengths m)
+after-modest s (hands event) m = m
+after-modest s (reclaims id) m = reclaim-modest (s .endpoint) (s .finished) (s .records) (s .packets) id m
+after-modest s (cancels id) m = m
+after-modest s retires m = m
+after-modest s begins m = m
+after-modest s (ends worked) m = m
+after-modest s stops m = m
+after-modest s resumes m = m
+after-modest s points m = m
+
 pub reached-modest : {s : State} → Reached s → Modest (s .packets)
-reached-modest (made ring finished records packets slots base mask slot dci d) = make-modest ring finished records packets slots base mask slot dci d
-reached-modest (configured r packet burst interval) = reached-modest r
-reached-modest (started {s} r request lengths) = start-modest s request lengths (reached-modest r)
-reached-modest (stored r) = reached-modest r
-reached-modest (handed r event) = reached-modest r
-reached-modest (reclaimed {s} r id) = reclaim-modest (s .endpoint) (s .finished) (s .records) (s .packets) id (reached-modest r)
-reached-modest (cancelled r id) = reached-modest r
-reached-modest (retired r) = reached-modest r
-reached-modest (reached.begun r) = reached-modest r
-reached-modest (ended r worked) = reached-modest r
+reached-modest = reached-has (λ (t : State). Modest (t .packets)) made-modest (λ s r. after-modest s)

@@ -1,4 +1,4 @@
--- A whole submission is a start and stores: the state after it is one that those calls reach (`submit-reached`). Assumes nothing.
+-- A whole submission is a start and stores: what every start and every store keeps, it keeps (`submit-keeps`). Assumes nothing.
 use Prim.Native.Nat.{ℕ, zero, suc}
 use mathlib.Core.Bool.{_&&_}
 use mathlib.Core.List.{List}
@@ -16,39 +16,40 @@ use Rattle.dock.specs.Start as starting
 use Rattle.dock.specs.Store as storing
 use Rattle.dock.specs.Submit.{finish, mostStores, submit}
 use Rattle.dock.specs.Submit as submitting
-use Rattle.dock.proofs.Reached.{State, stateOf, afterStart, afterStore, afterSubmit, Reached, started, stored}
+use Rattle.dock.specs.Run.{State, stateOf, starts, stores, submits, after}
 use Rattle.dock.proofs.RetireLaws.{picked}
 
--- What follows a store, by its answer: the next stores, or the end.
-by-stored : (x : Stored) (s : State) (more : Endpoint → List ℕ → List ℕ → StoredAll × List ℕ × List ℕ) → Reached s
-    → (let m = more (s .endpoint) (s .ring) (s .finished) in Reached (stateOf (m .0 .endpoint) (m .1) (m .2) (s .records) (s .packets)))
-    → let a = submitting.afterStore x (s .endpoint) (s .ring) (s .finished) more in Reached (stateOf (a .0 .endpoint) (a .1) (a .2) (s .records) (s .packets))
-by-stored (store.Slot slot) s more r m = m
-by-stored (store.Last slot id bell) s more r m = r
-by-stored (store.Refused number) s more r m = r
+module _ (P : State → Type 0) (stored : (s : State) → P s → P (after s stores)) where
+  -- What follows a store, by its answer: the next stores, or the end.
+  by-stored : (x : Stored) (s : State) (more : Endpoint → List ℕ → List ℕ → StoredAll × List ℕ × List ℕ) → P s
+      → (let m = more (s .endpoint) (s .ring) (s .finished) in P (stateOf (m .0 .endpoint) (m .1) (m .2) (s .records) (s .packets)))
+      → let a = submitting.afterStore x (s .endpoint) (s .ring) (s .finished) more in P (stateOf (a .0 .endpoint) (a .1) (a .2) (s .records) (s .packets))
+  by-stored (store.Slot slot) s more h m = m
+  by-stored (store.Last slot id bell) s more h m = h
+  by-stored (store.Refused number) s more h m = h
 
--- The stores that are left, in order.
-pub finish-reached : (n : ℕ) (s : State) → Reached s
-    → let a = finish n (s .endpoint) (s .ring) (s .finished) (s .records) (s .packets) in Reached (stateOf (a .0 .endpoint) (a .1) (a .2) (s .records) (s .packets))
-unfolding finish
-finish-reached zero s r = r
-finish-reached (suc n) s r =
-    let a = storing.store (s .endpoint) (s .ring) (s .finished) (s .records) (s .packets) in
-    by-stored (a .0 .answer) (afterStore s) (λ e ring finished. finish n e ring finished (s .records) (s .packets)) (stored r)
-    (finish-reached n (afterStore s) (stored r))
+  -- The stores that are left, in order.
+  finish-keeps : (n : ℕ) (s : State) → P s
+      → let a = finish n (s .endpoint) (s .ring) (s .finished) (s .records) (s .packets) in P (stateOf (a .0 .endpoint) (a .1) (a .2) (s .records) (s .packets))
+  unfolding finish
+  finish-keeps zero s h = h
+  finish-keeps (suc n) s h =
+      let a = storing.store (s .endpoint) (s .ring) (s .finished) (s .records) (s .packets) in
+      by-stored (a .0 .answer) (after s stores) (λ e ring finished. finish n e ring finished (s .records) (s .packets)) (stored s h)
+      (finish-keeps n (after s stores) (stored s h))
 
-by-started : (x : Outcome) (s : State) (most : ℕ) → Reached s
-    → let a = submitting.afterStart x (s .endpoint) most (s .ring) (s .finished) (s .records) (s .packets) in
-    Reached (stateOf (a .0 .endpoint) (a .1) (a .2) (a .3) (a .4))
-by-started Done s most r = finish-reached most s r
-by-started (Refused number) s most r = r
+  by-started : (x : Outcome) (s : State) (most : ℕ) → P s
+      → let a = submitting.afterStart x (s .endpoint) most (s .ring) (s .finished) (s .records) (s .packets) in
+      P (stateOf (a .0 .endpoint) (a .1) (a .2) (a .3) (a .4))
+  by-started Done s most h = finish-keeps most s h
+  by-started (Refused number) s most h = h
 
-pub submit-reached : {s : State} → Reached s → (request : Request) (lengths : List ℕ) → Reached (afterSubmit s request lengths)
-unfolding submit
-submit-reached {s} r request lengths =
-    let e = s .endpoint in
-    let a = starting.start e (s .records) (s .packets) request lengths in
-    picked (λ (x : StoredAll × List ℕ × List ℕ × List ℕ × List ℕ). Reached (stateOf (x .0 .endpoint) (x .1) (x .2) (x .3) (x .4)))
-    (eqb (length (s .ring)) (ringSize (e .shape .slots)) && eqb (length (s .finished)) (ringSize (e .shape .slots))) _ _
-    (λ t. by-started (a .0 .answer) (afterStart s request lengths) (mostStores request lengths) (started r request lengths))
-    (λ t. r)
+  pub submit-keeps : (s : State) (request : Request) (lengths : List ℕ) → P s → P (after s (starts request lengths)) → P (after s (submits request lengths))
+  unfolding submit
+  submit-keeps s request lengths h started =
+      let e = s .endpoint in
+      let a = starting.start e (s .records) (s .packets) request lengths in
+      picked (λ (x : StoredAll × List ℕ × List ℕ × List ℕ × List ℕ). P (stateOf (x .0 .endpoint) (x .1) (x .2) (x .3) (x .4)))
+      (eqb (length (s .ring)) (ringSize (e .shape .slots)) && eqb (length (s .finished)) (ringSize (e .shape .slots))) _ _
+      (λ t. by-started (a .0 .answer) (after s (starts request lengths)) (mostStores request lengths) started)
+      (λ t. h)

@@ -1,4 +1,4 @@
--- The definitions of the dock: what it may hold, its state, and one file for each call, in document 01's order and words.
+-- The definitions of the dock: what it may hold, its state, one file for each call, in document 01's order and words, and a run of calls as data.
 pub mod Limits
 pub mod State
 pub mod Requests
@@ -18,3 +18,4 @@ pub mod Retire
 pub mod Reset
 pub mod Commands
 pub mod Numbers
+pub mod Run

@@ -29,12 +29,13 @@ use Rattle.dock.specs.HandOver.{slotFor, foreign, handOverTests, handOverNo, ha
 use Rattle.dock.specs.Limits.{limitsHold}
 use Rattle.dock.specs.Make.{sized, makeTests, makeNo, make}
 use Rattle.dock.specs.Reclaim.{leave, mismatched, completeTests, complete, placeOf, reclaimBulk, reclaimControl, closeBelow, total, sweep, reclaimIso, reclaimTests, reclaimNo, reclaimFlying, reclaim}
+use Rattle.dock.specs.Run.{madeOf, making, configures, starts, stores, reclaims, cancels}
 use Rattle.dock.specs.Start.{startNo, startTests, crowded, tooLong, beyond, charged, recordTaken, idTaken, startedEndpoint, startedRecords, writePackets, start}
 use Rattle.dock.specs.Store.{store, storeNo, storeTests, stepped, slotStored, ringStored, finishedStored, settled, storedAnswer}
 use Rattle.dock.specs.Stores.{trbOf, trbCount}
 use Rattle.dock.specs.Worth.{accepted, counts, worth}
 use Rattle.promise.specs.Controller.{Entry, does}
-use Rattle.promise.specs.Run.{World, fromMaking, madeOf, admitted, Move, configures, starts, stores, hands, reclaims, cancels, steps, act, may, admits, takes, isFor, started, handed, play, allowed, Run, made, andThen}
+use Rattle.promise.specs.Run.{World, fromMaking, admitted, Move, calls, hands, steps, act, may, admits, takes, isFor, handed, play, allowed, Run, made, andThen}
 use Rattle.promise.specs.Run as running
 
 -- A Success event for the TRB at a slot.
@@ -43,19 +44,19 @@ event slot = record { w0 = 0x10000 + 16 * slot; w1 = 0; w2 = 0x1000000; w3 = 0x1
 
 -- A bulk request of 64 bytes whose n-th TRB of the run is at a slot, from its start to its reclaim under an id.
 abbrev bulk : ℕ → ℕ → ℕ → List Move
-bulk number slot id = starts (Bulk true 0x30000 64) [] ∷ stores ∷ steps ∷ hands (event slot) number ∷ reclaims id ∷ []
+bulk number slot id = calls (starts (Bulk true 0x30000 64) []) ∷ calls stores ∷ steps ∷ hands (event slot) number ∷ calls (reclaims id) ∷ []
 
 -- The control request, a step of the controller after each of its five stores, a call that is refused in between, and its end.
 abbrev control : List Move
 control =
-    starts (Control 0x80 6 0x100 0 0x20000 0x12) []
-    ∷ stores ∷ steps ∷ stores ∷ steps ∷ hands (event 3) 9 ∷ stores ∷ steps ∷ configures 1 1 1 ∷ stores ∷ steps ∷ stores
-    ∷ steps ∷ steps ∷ steps ∷ steps ∷ hands (event 1) 5 ∷ reclaims 4 ∷ []
+    calls (starts (Control 0x80 6 0x100 0 0x20000 0x12) [])
+    ∷ calls stores ∷ steps ∷ calls stores ∷ steps ∷ hands (event 3) 9 ∷ calls stores ∷ steps ∷ calls (configures 1 1 1) ∷ calls stores ∷ steps ∷ calls stores
+    ∷ steps ∷ steps ∷ steps ∷ steps ∷ hands (event 1) 5 ∷ calls (reclaims 4) ∷ []
 
 -- An ISO request of two packets, up to the ring's end again. One of its TRBs has an event, it is cancelled, and reclaimed.
 abbrev iso : List Move
 iso =
-    configures 64 0 1 ∷ starts (Isoch true 0x40000 128) (64 ∷ 64 ∷ []) ∷ stores ∷ steps ∷ stores ∷ stores ∷ steps ∷ steps ∷ hands (event 3) 7 ∷ cancels 5 ∷ reclaims 5 ∷ []
+    calls (configures 64 0 1) ∷ calls (starts (Isoch true 0x40000 128) (64 ∷ 64 ∷ [])) ∷ calls stores ∷ steps ∷ calls stores ∷ calls stores ∷ steps ∷ steps ∷ hands (event 3) 7 ∷ calls (cancels 5) ∷ calls (reclaims 5) ∷ []
 
 abbrev moves : List Move
 moves = bulk 0 0 1 ++ bulk 1 1 2 ++ bulk 2 2 3 ++ control ++ iso
@@ -65,11 +66,11 @@ tables n = replicate n 0
 
 outset : World
 unfolding makeNo makeTests make sized limitsHold
-outset = fromMaking (madeOf (tables 20) (tables 20) (tables 768) (tables 4096) 5 0x10000 0xffffffff 1 1)
+outset = fromMaking (madeOf (make (tables 20) (tables 20) (tables 768) (tables 4096) 5 0x10000 0xffffffff 1 1))
 
 -- The world after the moves, and whether each of them may be made in its turn.
 ended : World × Bool
-unfolding outset allowed play admits takes isFor started handed running.stepped does accepted cycle.cycleOf owned typeOf wordsOf wordsAt put putWords storeAt isSlot slotOf finishedAt fillPlace packetAt putPacket recordAt setWord bit lowestClear clearFrom setBit clearBit freeId freeFrom heldBy any findFrom findId cancel cancelNo cancelTests configure plainNo plainTests fits placesFit strays fitsWith nextOf slotFor foreign handOverTests handOverNo handOver limitsHold leave mismatched completeTests complete placeOf reclaimBulk reclaimControl closeBelow total sweep reclaimIso reclaimTests reclaimNo reclaimFlying reclaim startNo startTests crowded tooLong beyond charged recordTaken idTaken startedEndpoint startedRecords writePackets start store storeNo storeTests stepped slotStored ringStored finishedStored settled storedAnswer trbOf trbCount burstsOf packetsOf worth counts
+unfolding outset allowed play admits takes isFor handed running.stepped does accepted cycle.cycleOf owned typeOf wordsOf wordsAt put putWords storeAt isSlot slotOf finishedAt fillPlace packetAt putPacket recordAt setWord bit lowestClear clearFrom setBit clearBit freeId freeFrom heldBy any findFrom findId cancel cancelNo cancelTests configure plainNo plainTests fits placesFit strays fitsWith nextOf slotFor foreign handOverTests handOverNo handOver limitsHold leave mismatched completeTests complete placeOf reclaimBulk reclaimControl closeBelow total sweep reclaimIso reclaimTests reclaimNo reclaimFlying reclaim startNo startTests crowded tooLong beyond charged recordTaken idTaken startedEndpoint startedRecords writePackets start store storeNo storeTests stepped slotStored ringStored finishedStored settled storedAnswer trbOf trbCount burstsOf packetsOf worth counts
 ended = (play outset moves, allowed outset moves)
 
 all-allowed : allowed outset moves ≡ true
@@ -86,7 +87,7 @@ run-played w (m ∷ ms) r e =
 
 reached : Run (play outset moves)
 unfolding outset
-reached = run-played outset moves (made (tables 20) (tables 20) (tables 768) (tables 4096) 5 0x10000 0xffffffff 1 1 refl) all-allowed
+reached = run-played outset moves (made (making (tables 20) (tables 20) (tables 768) (tables 4096) 5 0x10000 0xffffffff 1 1 refl)) all-allowed
 
 abbrev entry : ℕ → ℕ → ℕ → ℕ → ℕ → Entry
 entry i a b c d = record { at = i; trb = record { w0 = a; w1 = b; w2 = c; w3 = d } }

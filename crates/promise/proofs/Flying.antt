@@ -27,9 +27,9 @@ use Rattle.dock.specs.Fit.{flies}
 use Rattle.dock.proofs.BooksLaws.{by-flies, Alike, alike-same, alike-set, flies-alike, still-held, freed-other}
 use Rattle.dock.proofs.InvariantLaws.{marked-alike}
 use Rattle.dock.proofs.NothingLaws.{RecordsAfter}
-use Rattle.dock.proofs.Reached.{stateOf, afterConfigure, afterCancel}
+use Rattle.dock.specs.Run.{stateOf, configures, cancels}
 use Rattle.dock.proofs.RefusalLaws.{plain-exact, configure-acts, configure-refuses, cancel-exact, cancel-acts, cancel-refuses}
-use Rattle.promise.specs.Run.{World, withDock}
+use Rattle.promise.specs.Run.{World, withDock, calls, act}
 use Rattle.promise.proofs.Handed.{idle-kept}
 use Rattle.promise.proofs.Kept.{Kept, rests, Holds, Owner, Flights}
 
@@ -166,7 +166,7 @@ idle-changes w k e records packets i s = record {
       (w .heard) (k .flights) records s);
 }
 
-pub configured-kept : (w : World) (packet burst interval : ℕ) → Kept w → Kept (withDock w (afterConfigure (w .dock) packet burst interval))
+pub configured-kept : (w : World) (packet burst interval : ℕ) → Kept w → Kept (act w (calls (configures packet burst interval)))
 unfolding plainTests
 configured-kept w packet burst interval k =
     let e = w .dock .endpoint in
@@ -179,7 +179,7 @@ configured-kept w packet burst interval k =
     (λ (p : plainNo e ≡ 0 → ⊥). rw (configure-refuses e packet burst interval p) k)
     (same-or-not (plainNo e) 0)
 
-pub cancelled-kept : (w : World) (id : ℕ) → Kept w → Kept (withDock w (afterCancel (w .dock) id))
+pub cancelled-kept : (w : World) (id : ℕ) → Kept w → Kept (act w (calls (cancels id)))
 unfolding cancelTests
 cancelled-kept w id k =
     let e = w .dock .endpoint in

@@ -44,7 +44,9 @@ use Rattle.dock.proofs.FitLaws.{store-number}
 use Rattle.dock.proofs.InvariantLaws.{Untouched, Looked, reclaim-result, marked-alike}
 use Rattle.dock.proofs.NextLaws.{because, store-admitted}
 use Rattle.dock.proofs.OnceLaws.{outstanding-is-sum}
-use Rattle.dock.proofs.Reached.{Sound, flightPart, flightSum, afterReclaim, afterStart, afterStore, afterCancel}
+use Rattle.dock.proofs.Reached.{Sound, flightPart, flightSum}
+use Rattle.dock.specs.Run.{Call, configures, starts, stores, submits, reclaims, cancels, retires, begins, ends, stops, resumes, points, after}
+use Rattle.dock.specs.Run as dock
 use Rattle.dock.proofs.ReclaimLaws.{Left}
 use Rattle.dock.proofs.RefusalLaws.{start-acts, start-refuses, store-refuses}
 use Rattle.dock.proofs.RetireLaws.{picked}
@@ -56,7 +58,7 @@ use Rattle.order.proofs.Index.{pos, slot-lt, distinct}
 use Rattle.order.proofs.Moves.{pending, waiting, length-layout}
 use Rattle.order.proofs.Order.{Front}
 use Rattle.promise.specs.Requested.{slotOf}
-use Rattle.promise.specs.Run.{World, slots, admitted, storedCount, recordUnderWay, firstUnderWay, admits, started, handed, stepped, Move, configures, starts, stores, hands, reclaims, cancels, steps, act, Run}
+use Rattle.promise.specs.Run.{World, slots, admitted, storedCount, recordUnderWay, firstUnderWay, part, within, admits, handed, stepped, Move, calls, hands, steps, act, ofRuns, Run}
 use Rattle.promise.proofs.Awaited.{next-at}
 use Rattle.promise.proofs.Handed.{all-stored}
 use Rattle.promise.proofs.Kept.{modelIn, Under, rests, opens, shows, hides, Kept}
@@ -242,7 +244,7 @@ module _ (w : World) (r : ℕ) where
   configures-keeps packet burst interval =
       picked (λ (c : Changed). c .endpoint .account ≡ w .dock .endpoint .account) (eqb (plainNo (w .dock .endpoint)) 0) _ _ (λ t. refl) (λ t. refl)
 
-  stores-keeps : afterStore (w .dock) .endpoint .account ≡ w .dock .endpoint .account
+  stores-keeps : after (w .dock) stores .endpoint .account ≡ w .dock .endpoint .account
   stores-keeps =
       let d = w .dock in
       ⊎-elim
@@ -252,7 +254,7 @@ module _ (w : World) (r : ℕ) where
       ap (λ s. s .0 .endpoint .account) (store-refuses (d .endpoint) (d .ring) (d .finished) (d .records) (d .packets) p))
       (same-or-not (storeNo (d .endpoint) (length (d .ring)) (length (d .finished)) (d .records) (length (d .packets))) 0)
 
-  cancels-keeps : (id : ℕ) → flies (afterCancel (w .dock) id .records) (w .dock .endpoint .account .occupancy) r ≡ inFlight w r
+  cancels-keeps : (id : ℕ) → flies (after (w .dock) (cancels id) .records) (w .dock .endpoint .account .occupancy) r ≡ inFlight w r
   unfolding cancel
   cancels-keeps id =
       let e = w .dock .endpoint in
@@ -263,7 +265,7 @@ module _ (w : World) (r : ℕ) where
 
   -- A start takes a record that is free.
   starts-keeps : (request : Request) (lengths : List ℕ) → inFlight w r ≡ true
-      → flies (afterStart (w .dock) request lengths .records) (afterStart (w .dock) request lengths .endpoint .account .occupancy) r ≡ true
+      → flies (after (w .dock) (starts request lengths) .records) (after (w .dock) (starts request lengths) .endpoint .account .occupancy) r ≡ true
   starts-keeps request lengths fly =
       let e = w .dock .endpoint in
       let records = w .dock .records in
@@ -284,7 +286,7 @@ module _ (w : World) (r : ℕ) where
 
   -- A reclaim frees the record that it looks at, once an event has passed its TRBs, and no other.
   reclaims-consumed : (h : Sound (w .dock)) (k : Kept w) (id : ℕ) → inFlight w r ≡ true
-      → flies (afterReclaim (w .dock) id .records) (afterReclaim (w .dock) id .endpoint .account .occupancy) r ≡ false
+      → flies (after (w .dock) (reclaims id) .records) (after (w .dock) (reclaims id) .endpoint .account .occupancy) r ≡ false
       → w .first r + recordAt (w .dock .records) r .count ≤ length (w .consumed)
   unfolding leave
   reclaims-consumed h k id fly gone =
@@ -319,19 +321,31 @@ module _ (w : World) (r : ℕ) where
       (u .touches .end))
       (reclaim-result (w .dock) id)
 
--- Whatever the move: a request that was in flight before it and is not after it has all its TRBs consumed.
-pub leaves-consumed : {w : World} → Run w → (m : Move) → (r : ℕ) → inFlight w r ≡ true → inFlight (act w m) r ≡ false
+call-consumed : {w : World} → Run w → (c : Call) → within (part c) ≡ true → (r : ℕ) → inFlight w r ≡ true → inFlight (act w (calls c)) r ≡ false
     → w .first r + recordAt (w .dock .records) r .count ≤ length (w .consumed)
-unfolding started handed stepped
-leaves-consumed {w} run (configures packet burst interval) r fly gone =
+call-consumed {w} run (configures packet burst interval) its r fly gone =
     absurd (false≢true (sym gone ∙ ap (λ (a : Account). flies (w .dock .records) (a .occupancy) r)
     (configures-keeps w r packet burst interval) ∙ fly))
-leaves-consumed {w} run (starts request lengths) r fly gone =
+call-consumed {w} run (starts request lengths) its r fly gone =
     absurd (false≢true (sym gone ∙ picked (λ (x : World). inFlight x r ≡ true) (admits w request lengths) _ _
     (λ t. starts-keeps w r request lengths fly) (λ t. starts-keeps w r request lengths fly)))
-leaves-consumed {w} run stores r fly gone =
+call-consumed {w} run stores its r fly gone =
     absurd (false≢true (sym gone ∙ ap (λ (a : Account). flies (w .dock .records) (a .occupancy) r) (stores-keeps w r) ∙ fly))
-leaves-consumed {w} run (hands event number) r fly gone = absurd (false≢true (sym gone ∙ fly))
-leaves-consumed {w} run (reclaims id) r fly gone = reclaims-consumed w r (run-sound run) (run-kept run) id fly gone
-leaves-consumed {w} run (cancels id) r fly gone = absurd (false≢true (sym gone ∙ cancels-keeps w r id ∙ fly))
-leaves-consumed {w} run steps r fly gone = absurd (false≢true (sym gone ∙ fly))
+call-consumed {w} run (submits request lengths) its r fly gone = absurd (false≢true its)
+call-consumed {w} run (dock.hands event) its r fly gone = absurd (false≢true its)
+call-consumed {w} run (reclaims id) its r fly gone = reclaims-consumed w r (run-sound run) (run-kept run) id fly gone
+call-consumed {w} run (cancels id) its r fly gone = absurd (false≢true (sym gone ∙ cancels-keeps w r id ∙ fly))
+call-consumed {w} run retires its r fly gone = absurd (false≢true its)
+call-consumed {w} run begins its r fly gone = absurd (false≢true its)
+call-consumed {w} run (ends worked) its r fly gone = absurd (false≢true its)
+call-consumed {w} run stops its r fly gone = absurd (false≢true (sym gone ∙ fly))
+call-consumed {w} run resumes its r fly gone = absurd (false≢true (sym gone ∙ fly))
+call-consumed {w} run points its r fly gone = absurd (false≢true (sym gone ∙ fly))
+
+-- Whatever the move of a run: a request that was in flight before it and is not after it has all its TRBs consumed.
+pub leaves-consumed : {w : World} → Run w → (m : Move) → ofRuns m ≡ true → (r : ℕ) → inFlight w r ≡ true → inFlight (act w m) r ≡ false
+    → w .first r + recordAt (w .dock .records) r .count ≤ length (w .consumed)
+unfolding handed stepped
+leaves-consumed run (calls c) its r fly gone = call-consumed run c its r fly gone
+leaves-consumed run (hands event number) its r fly gone = absurd (false≢true (sym gone ∙ fly))
+leaves-consumed run steps its r fly gone = absurd (false≢true (sym gone ∙ fly))

@@ -23,7 +23,8 @@ use Rattle.dock.specs.declared.Endpoint.{Endpoint}
 use Rattle.dock.specs.HandOver.{slotNumber, slotFor, foreign, handOverTests, handOverNo}
 use Rattle.dock.specs.Reclaim.{codeOf}
 use Rattle.dock.specs.Worth.{accepted}
-use Rattle.dock.proofs.Reached.{Sound, stateOf}
+use Rattle.dock.proofs.Reached.{Sound}
+use Rattle.dock.specs.Run.{stateOf}
 use Rattle.dock.proofs.RefusalLaws.{hand-over-exact, hand-over-refuses, hand-over-acts}
 use Rattle.dock.proofs.TestLaws.{by-foreign}
 use Rattle.order.specs.Flat.{flat}

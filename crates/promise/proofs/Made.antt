@@ -19,7 +19,7 @@ use Rattle.dock.specs.Make.{make, makeNo, makeTests, zeros}
 use Rattle.dock.specs.State.{fresh}
 use Rattle.dock.proofs.BooksLaws.{by-flies}
 use Rattle.dock.proofs.InvariantLaws.{not-done}
-use Rattle.dock.proofs.Reached.{stateOf}
+use Rattle.dock.specs.Run.{State, stateOf, madeOf, Made, making}
 use Rattle.dock.proofs.RefusalLaws.{make-exact, make-refuses, make-acts}
 use Rattle.dock.proofs.TestLaws.{by-limits, by-sized}
 use Rattle.order.specs.Flat.{flat, getD-zeros, zeroed}
@@ -27,7 +27,7 @@ use Rattle.order.specs.Model.{idle}
 use Rattle.order.specs.Model as model
 use Rattle.order.proofs.Moves.{made-keeps}
 use Rattle.order.proofs.Numbers.{made-numbered}
-use Rattle.promise.specs.Run.{fromMaking, madeOf}
+use Rattle.promise.specs.Run.{fromMaking}
 use Rattle.promise.proofs.Kept.{Kept, rests}
 
 -- A place of zeros is empty,
@@ -76,11 +76,14 @@ module _ (ring finished records packets : List ℕ) (slots base mask slot dci : 
         };
       }
 
-  pub made-kept : make ring finished records packets slots base mask slot dci .0 .answer ≡ Done
-      → Kept (fromMaking (madeOf ring finished records packets slots base mask slot dci))
-  made-kept done =
+  done-kept : make ring finished records packets slots base mask slot dci .0 .answer ≡ Done
+      → Kept (fromMaking (madeOf (make ring finished records packets slots base mask slot dci)))
+  done-kept done =
       ⊎-elim
       (λ (p : number ≡ 0). rw (make-acts ring finished records packets slots base mask slot dci p) (fresh-kept p))
       (λ (p : number ≡ 0 → ⊥).
       absurd (not-done number (sym (ap (λ m. m .0 .answer) (make-refuses ring finished records packets slots base mask slot dci p)) ∙ done)))
       (same-or-not number 0)
+
+pub made-kept : (d : State) → Made d → Kept (fromMaking d)
+made-kept d (making ring finished records packets slots base mask slot dci done) = done-kept ring finished records packets slots base mask slot dci done

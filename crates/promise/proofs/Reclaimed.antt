@@ -29,7 +29,8 @@ use Rattle.dock.proofs.BooksLaws.{by-flies, freed-sum}
 use Rattle.dock.proofs.InvariantLaws.{Untouched, Looked, reclaim-result, reclaim-idle}
 use Rattle.dock.proofs.NothingLaws.{reclaim-records}
 use Rattle.dock.proofs.OnceLaws.{held-found}
-use Rattle.dock.proofs.Reached.{stateOf, Sound, flightPart, afterReclaim}
+use Rattle.dock.proofs.Reached.{Sound, flightPart}
+use Rattle.dock.specs.Run.{stateOf, reclaims}
 use Rattle.dock.proofs.ReclaimLaws.{final, Left}
 use Rattle.dock.proofs.RefusalLaws.{reclaim-acts}
 use Rattle.order.specs.Flat.{flat}
@@ -37,7 +38,7 @@ use Rattle.order.specs.Model as model
 use Rattle.order.proofs.Index.{pos, pos-is, slot-lt, distinct}
 use Rattle.order.proofs.Moves.{free-keeps, length-layout}
 use Rattle.order.proofs.Numbers.{free-numbered}
-use Rattle.promise.specs.Run.{World, withDock}
+use Rattle.promise.specs.Run.{World, withDock, calls, act}
 use Rattle.promise.proofs.Awaited.{in-flight}
 use Rattle.promise.proofs.Flying.{Same, same-after, flights-same, flights-freed, idle-changes}
 use Rattle.promise.proofs.Handed.{idle-kept, all-stored}
@@ -169,7 +170,7 @@ module _ (w : World) (h : Sound (w .dock)) (k : Kept w) (id : ℕ) where
         flights = flights-same K old (clearBit occupancy r) (w .first) total (w .heard) flights records same;
       }
 
-  pub reclaimed-kept : Kept (withDock w (afterReclaim (w .dock) id))
+  pub reclaimed-kept : Kept (act w (calls (reclaims id)))
   reclaimed-kept =
       let t = result in
       let same =

@@ -27,7 +27,9 @@ use Rattle.dock.specs.Requests.{required, recordFor}
 use Rattle.dock.specs.Start.{startNo, recordTaken, idTaken, charged, writePackets, startedEndpoint, startedRecords}
 use Rattle.dock.specs.Stores.{trbCount}
 use Rattle.dock.proofs.BooksLaws.{by-flies}
-use Rattle.dock.proofs.Reached.{State, stateOf, Sound}
+use Rattle.dock.proofs.Reached.{Sound}
+use Rattle.dock.specs.Run.{stateOf}
+use Rattle.dock.specs.Run as dock
 use Rattle.dock.proofs.RefusalLaws.{start-acts, start-refuses}
 use Rattle.dock.proofs.StartLaws.{Starting, start-admitted, record-below, record-free, record-taken, record-written, records-kept}
 use Rattle.dock.proofs.StartedLaws.{count-is, required-some}
@@ -38,7 +40,7 @@ use Rattle.order.proofs.Index.{pos}
 use Rattle.order.proofs.Moves.{Inv, begin-keeps, length-layout, resting, starts-pending}
 use Rattle.order.proofs.Numbers.{Numbered, begin-numbered}
 use Rattle.promise.specs.Requested.{trbsOf, typed}
-use Rattle.promise.specs.Run.{World, withFirst, withTrbs, admits, started}
+use Rattle.promise.specs.Run.{World, withFirst, withTrbs, admits, calls, act}
 use Rattle.promise.proofs.Asked.{asked-for, trbs-count, trbs-plain, link-is}
 use Rattle.promise.proofs.Awaited.{next-at}
 use Rattle.promise.proofs.Handed.{idle-kept, all-stored}
@@ -311,8 +313,8 @@ module _ (w : World) (request : Request) (lengths : List ℕ) (h : Sound (w .doc
 -- ---- the call
 
 pub started-kept : (w : World) (request : Request) (lengths : List ℕ) → Sound (w .dock) → Kept w → typed request ≡ true
-    → Kept (started w request lengths)
-unfolding started admits
+    → Kept (act w (calls (dock.starts request lengths)))
+unfolding admits
 started-kept w request lengths h k fits =
     let e = w .dock .endpoint in
     let old = w .dock .records in

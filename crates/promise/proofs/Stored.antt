@@ -28,7 +28,8 @@ use Rattle.dock.specs.State.{idle, moved}
 use Rattle.dock.specs.Store.{stepped, settled, ringStored, finishedStored, firstCycle, storeNo}
 use Rattle.dock.specs.Stores.{trbCount, trbOf, setupTrb}
 use Rattle.dock.proofs.NextLaws.{is-next, store-admitted}
-use Rattle.dock.proofs.Reached.{State, stateOf, Sound, afterStore}
+use Rattle.dock.proofs.Reached.{Sound}
+use Rattle.dock.specs.Run.{State, stateOf, stores}
 use Rattle.dock.proofs.RefusalLaws.{store-acts, store-refuses}
 use Rattle.dock.proofs.StepLaws.{step-works, setup-hidden, trb-current}
 use Rattle.order.specs.Flat.{flat, setCycle, setSlot}
@@ -36,7 +37,7 @@ use Rattle.order.specs.Model as model
 use Rattle.order.proofs.Index.{pos, period}
 use Rattle.order.proofs.Moves.{Inv, store-keeps, doing-of, pending}
 use Rattle.order.proofs.Numbers.{Numbered, store-numbered}
-use Rattle.promise.specs.Run.{World, withDock}
+use Rattle.promise.specs.Run.{World, withDock, calls, act}
 use Rattle.promise.proofs.Awaited.{next-at}
 use Rattle.promise.proofs.Kept.{positionOf, modelOf, modelIn, upcoming, LinkSlot, linkWords, left, setupAt, Opens, Shows, Hides, Under, rests, opens, shows, hides, Begun, Places, Kept}
 use Rattle.promise.proofs.Laid.{bare, bared, bared-length, store-is}
@@ -586,7 +587,7 @@ module _ (w : World) (h : Sound (w .dock)) (k : Kept w) where
       by busy low (shows u) = stored-shown u
       by busy low (hides u) = stored-hidden u low
 
-  pub stored-kept : Kept (withDock w (afterStore (w .dock)))
+  pub stored-kept : Kept (act w (calls stores))
   stored-kept =
       ⊎-elim
       (λ (p : storeNo e (length (w .dock .ring)) (length (w .dock .finished)) (w .dock .records) (length packets) ≡ 0).

@@ -31,7 +31,9 @@ use Rattle.dock.specs.Submit.{finish, mostStores}
 use Rattle.dock.specs.Submit as submitting
 use Rattle.dock.proofs.FinishLaws.{submit-done}
 use Rattle.dock.proofs.InvariantLaws.{Untouched, Looked, reclaim-result}
-use Rattle.dock.proofs.Reached.{State, stateOf, Sound, flightPart, afterStart, afterStore, afterSubmit, afterReclaim}
+use Rattle.dock.proofs.Reached.{Sound, flightPart}
+use Rattle.dock.specs.Run.{State, stateOf, madeOf, Made, making, Call, configures, starts, stores, submits, reclaims, cancels, retires, begins, ends, stops, resumes, points, after}
+use Rattle.dock.specs.Run as dock
 use Rattle.dock.proofs.ReclaimLaws.{Left}
 use Rattle.dock.proofs.RefusalLaws.{start-acts, start-refuses, store-exact, store-refuses, submit-acts, submit-refuses}
 use Rattle.dock.proofs.RetireLaws.{picked}
@@ -39,37 +41,37 @@ use Rattle.dock.proofs.StepLaws.{store-goes-on, store-ends}
 use Rattle.dock.proofs.StoreLaws.{lastStore}
 use Rattle.order.proofs.Order.{Front}
 use Rattle.promise.specs.Requested.{typed}
-use Rattle.promise.specs.Run.{World, slots, admitted, admits, started, handed, stepped, stepping, Move, configures, starts, stores, hands, reclaims, cancels, steps, act, madeOf, Run}
+use Rattle.promise.specs.Run.{World, slots, admitted, part, handed, stepped, stepping, Move, calls, hands, steps, act, Run}
 use Rattle.promise.specs.Run as run
-use Rattle.promise.specs.Whole.{storing, submitted, between, WholeRun, made, andThen, andSubmits}
+use Rattle.promise.specs.Whole.{storing, submitted, isAside, between, WholeRun, made, andThen, andSubmits}
 use Rattle.promise.proofs.Order.{in-order, drains}
-use Rattle.promise.proofs.Reach.{run-sound}
+use Rattle.promise.proofs.Reach.{booked-dock, run-sound}
 
 -- ---- the stores of a submission, by themselves
 
 -- n stores.
 storesOf : ℕ → State → State
 storesOf zero s = s
-storesOf (suc n) s = storesOf n (afterStore s)
+storesOf (suc n) s = storesOf n (after s stores)
 
 abbrev numberOf : State → ℕ
 numberOf s = storeNo (s .endpoint) (length (s .ring)) (length (s .finished)) (s .records) (length (s .packets))
 
 -- A store that is refused changes nothing,
-refused-stays : (s : State) → (numberOf s ≡ 0 → ⊥) → afterStore s ≡ s
+refused-stays : (s : State) → (numberOf s ≡ 0 → ⊥) → after s stores ≡ s
 refused-stays s p =
     ap (λ (a : StoredOne × List ℕ × List ℕ). stateOf (a .0 .endpoint) (a .1) (a .2) (s .records) (s .packets))
     (store-refuses (s .endpoint) (s .ring) (s .finished) (s .records) (s .packets) p)
 
 -- and with no submission under way every store is refused.
-rest-stays : (s : State) → s .endpoint .work .busy ≡ false → afterStore s ≡ s
+rest-stays : (s : State) → s .endpoint .work .busy ≡ false → after s stores ≡ s
 unfolding storeTests
 rest-stays s free =
     refused-stays s
     (λ p. false≢true (sym free ∙ not-false _ (store-exact (s .endpoint) (s .ring) (s .finished) (s .records) (s .packets) .passed p 1 (omega arith))))
 
 -- So do many.
-stays : (n : ℕ) (s : State) → afterStore s ≡ s → storesOf n s ≡ s
+stays : (n : ℕ) (s : State) → after s stores ≡ s → storesOf n s ≡ s
 unfolding storesOf
 stays zero s q = refl
 stays (suc n) s q = ap (storesOf n) q ∙ stays n s q
@@ -97,22 +99,22 @@ module _ (n : ℕ) (s : State) where
       q
 
   -- The submission goes on,
-  finish-on : numberOf s ≡ 0 → lastStore (s .endpoint) (s .records) (s .packets) ≡ false → afterFinish (suc n) s ≡ afterFinish n (afterStore s)
+  finish-on : numberOf s ≡ 0 → lastStore (s .endpoint) (s .records) (s .packets) ≡ false → afterFinish (suc n) s ≡ afterFinish n (after s stores)
   unfolding afterFinish
   finish-on p more =
       finish-by _ (ap (λ (a : StoredOne). a .answer) (store-goes-on (s .endpoint) (s .ring) (s .finished) (s .records) (s .packets) p more))
 
   -- or it ends.
-  finish-last : numberOf s ≡ 0 → lastStore (s .endpoint) (s .records) (s .packets) ≡ true → afterFinish (suc n) s ≡ afterStore s
+  finish-last : numberOf s ≡ 0 → lastStore (s .endpoint) (s .records) (s .packets) ≡ true → afterFinish (suc n) s ≡ after s stores
   finish-last p last =
       finish-by _ (ap (λ (a : StoredOne). a .answer) (store-ends (s .endpoint) (s .ring) (s .finished) (s .records) (s .packets) p last))
 
-  finish-refused : (numberOf s ≡ 0 → ⊥) → afterFinish (suc n) s ≡ afterStore s
+  finish-refused : (numberOf s ≡ 0 → ⊥) → afterFinish (suc n) s ≡ after s stores
   finish-refused p =
       finish-by _ (ap (λ (a : StoredOne × List ℕ × List ℕ). a .0 .answer)
       (store-refuses (s .endpoint) (s .ring) (s .finished) (s .records) (s .packets) p))
 
-  over-rests : numberOf s ≡ 0 → lastStore (s .endpoint) (s .records) (s .packets) ≡ true → afterStore s .endpoint .work .busy ≡ false
+  over-rests : numberOf s ≡ 0 → lastStore (s .endpoint) (s .records) (s .packets) ≡ true → after s stores .endpoint .work .busy ≡ false
   over-rests p last =
       ap (λ (a : StoredOne). a .endpoint .work .busy) (store-ends (s .endpoint) (s .ring) (s .finished) (s .records) (s .packets) p last)
 
@@ -124,8 +126,8 @@ stores-finish (suc n) s =
     (λ (p : numberOf s ≡ 0).
     ⊎-elim
     (λ (last : lastStore (s .endpoint) (s .records) (s .packets) ≡ true).
-    stays n (afterStore s) (rest-stays (afterStore s) (over-rests n s p last)) ∙ sym (finish-last n s p last))
-    (λ (more : lastStore (s .endpoint) (s .records) (s .packets) ≡ false). stores-finish n (afterStore s) ∙ sym (finish-on n s p more))
+    stays n (after s stores) (rest-stays (after s stores) (over-rests n s p last)) ∙ sym (finish-last n s p last))
+    (λ (more : lastStore (s .endpoint) (s .records) (s .packets) ≡ false). stores-finish n (after s stores) ∙ sym (finish-on n s p more))
     (true-or-false (lastStore (s .endpoint) (s .records) (s .packets))))
     (λ (p : numberOf s ≡ 0 → ⊥).
     let same = refused-stays s p in
@@ -145,12 +147,10 @@ storing-dock : (n : ℕ) (pauses : ℕ → ℕ) (w : World) → storing n pauses
 unfolding storing storesOf
 storing-dock zero pauses w = refl
 storing-dock (suc n) pauses w =
-    storing-dock n pauses (act (stepping (pauses n) w) stores) ∙ ap (λ (s : State). storesOf n (afterStore s)) (stepping-dock (pauses n) w)
+    storing-dock n pauses (act (stepping (pauses n) w) (calls stores)) ∙ ap (λ (s : State). storesOf n (after s stores)) (stepping-dock (pauses n) w)
 
-started-dock : (w : World) (request : Request) (lengths : List ℕ) → started w request lengths .dock ≡ afterStart (w .dock) request lengths
-unfolding started
-started-dock w request lengths =
-    picked (λ (x : World). x .dock ≡ afterStart (w .dock) request lengths) (admits w request lengths) _ _ (λ t. refl) (λ t. refl)
+started-dock : (w : World) (request : Request) (lengths : List ℕ) → act w (calls (starts request lengths)) .dock ≡ after (w .dock) (starts request lengths)
+started-dock w request lengths = booked-dock w _ (part (starts request lengths))
 
 module _ (w : World) (h : Sound (w .dock)) (request : Request) (lengths : List ℕ) (pauses : ℕ → ℕ) where
   abbrev s : State
@@ -162,17 +162,17 @@ module _ (w : World) (h : Sound (w .dock)) (request : Request) (lengths : List �
       (by-eqb (length (s .finished)) (ringSize (s .endpoint .shape .slots))))
       (h .ringLong, h .finishedLong)
 
-  stored-dock : submitted w request lengths pauses .dock ≡ afterFinish (mostStores request lengths) (afterStart s request lengths)
+  stored-dock : submitted w request lengths pauses .dock ≡ afterFinish (mostStores request lengths) (after s (starts request lengths))
   unfolding submitted
   stored-dock =
-      storing-dock (mostStores request lengths) pauses (started w request lengths)
+      storing-dock (mostStores request lengths) pauses (act w (calls (starts request lengths)))
       ∙ ap (storesOf (mostStores request lengths)) (started-dock w request lengths)
-      ∙ stores-finish (mostStores request lengths) (afterStart s request lengths)
+      ∙ stores-finish (mostStores request lengths) (after s (starts request lengths))
 
   abbrev passes : Type 0
   passes = startNo (s .endpoint) (s .records) (length (s .packets)) request lengths ≡ 0
 
-  admitted-is : passes → submitted w request lengths pauses .dock ≡ afterSubmit s request lengths
+  admitted-is : passes → submitted w request lengths pauses .dock ≡ after s (submits request lengths)
   unfolding afterFinish
   admitted-is p =
       stored-dock
@@ -183,20 +183,20 @@ module _ (w : World) (h : Sound (w .dock)) (request : Request) (lengths : List �
       (sym (submit-acts (s .endpoint) (s .ring) (s .finished) (s .records) (s .packets) request lengths fit p))
 
   module _ (free : s .endpoint .work .busy ≡ false) where
-    refused-is : (passes → ⊥) → submitted w request lengths pauses .dock ≡ afterSubmit s request lengths
+    refused-is : (passes → ⊥) → submitted w request lengths pauses .dock ≡ after s (submits request lengths)
     unfolding submitted
     refused-is p =
-        let same : afterStart s request lengths ≡ s =
+        let same : after s (starts request lengths) ≡ s =
         ap (λ (a : Changed × List ℕ × List ℕ). stateOf (a .0 .endpoint) (s .ring) (s .finished) (a .1) (a .2))
         (start-refuses (s .endpoint) (s .records) (s .packets) request lengths p) in
-        storing-dock (mostStores request lengths) pauses (started w request lengths)
+        storing-dock (mostStores request lengths) pauses (act w (calls (starts request lengths)))
         ∙ ap (storesOf (mostStores request lengths)) (started-dock w request lengths ∙ same)
         ∙ stays (mostStores request lengths) s (rest-stays s free)
         ∙ sym
         (ap (λ (a : StoredAll × List ℕ × List ℕ × List ℕ × List ℕ). stateOf (a .0 .endpoint) (a .1) (a .2) (a .3) (a .4))
         (submit-refuses (s .endpoint) (s .ring) (s .finished) (s .records) (s .packets) request lengths fit p))
 
-    pub submitted-is : submitted w request lengths pauses .dock ≡ afterSubmit s request lengths
+    pub submitted-is : submitted w request lengths pauses .dock ≡ after s (submits request lengths)
     submitted-is =
         ⊎-elim (λ (p : passes). admitted-is p) (λ (p : passes → ⊥). refused-is p)
         (same-or-not (startNo (s .endpoint) (s .records) (length (s .packets)) request lengths) 0)
@@ -224,16 +224,16 @@ stepping-run (suc n) w r = stepping-run n (stepped w) (run.andThen r steps refl)
 storing-run : (n : ℕ) (pauses : ℕ → ℕ) (w : World) → Run w → Run (storing n pauses w)
 unfolding storing
 storing-run zero pauses w r = r
-storing-run (suc n) pauses w r = storing-run n pauses (act (stepping (pauses n) w) stores) (run.andThen (stepping-run (pauses n) w r) stores refl)
+storing-run (suc n) pauses w r = storing-run n pauses (act (stepping (pauses n) w) (calls stores)) (run.andThen (stepping-run (pauses n) w r) (calls stores) refl)
 
 submitted-run : (w : World) (request : Request) (lengths : List ℕ) (pauses : ℕ → ℕ) → typed request ≡ true
     → Run w → Run (submitted w request lengths pauses)
 unfolding submitted
 submitted-run w request lengths pauses fits r =
-    storing-run (mostStores request lengths) pauses (started w request lengths) (run.andThen r (starts request lengths) fits)
+    storing-run (mostStores request lengths) pauses (act w (calls (starts request lengths))) (run.andThen r (calls (starts request lengths)) fits)
 
 pub whole-run : {w : World} → WholeRun w → Run w
-whole-run (made ring finished records packets slots base mask slot dci done) = run.made ring finished records packets slots base mask slot dci done
+whole-run (made m) = run.made m
 whole-run (andThen r m other allowed) = run.andThen (whole-run r) m allowed
 whole-run (andSubmits {w} r request lengths pauses fits) = submitted-run w request lengths pauses fits (whole-run r)
 
@@ -243,7 +243,7 @@ unfolding configure
 configure-rests s packet burst interval =
     picked (λ (c : Changed). c .endpoint .work ≡ s .endpoint .work) (eqb (plainNo (s .endpoint)) 0) _ _ (λ t. refl) (λ t. refl)
 
-reclaim-rests : (s : State) (id : ℕ) → afterReclaim s id .endpoint .work ≡ s .endpoint .work
+reclaim-rests : (s : State) (id : ℕ) → after s (reclaims id) .endpoint .work ≡ s .endpoint .work
 unfolding leave
 reclaim-rests s id =
     let t = reclaim (s .endpoint) (s .finished) (s .records) (s .packets) id in
@@ -257,25 +257,36 @@ reclaim-rests s id =
     (u .touches .end))
     (reclaim-result s id)
 
+call-rests : (s : State) (c : Call) → isAside (part c) ≡ true → s .endpoint .work .busy ≡ false → after s c .endpoint .work .busy ≡ false
+call-rests s (configures packet burst interval) other free = ap (λ (x : Work). x .busy) (configure-rests s packet burst interval) ∙ free
+call-rests s (starts request lengths) other free = absurd (false≢true other)
+call-rests s stores other free = absurd (false≢true other)
+call-rests s (submits request lengths) other free = absurd (false≢true other)
+call-rests s (dock.hands event) other free = absurd (false≢true other)
+call-rests s (reclaims id) other free = ap (λ (x : Work). x .busy) (reclaim-rests s id) ∙ free
+call-rests s (cancels id) other free = free
+call-rests s retires other free = absurd (false≢true other)
+call-rests s begins other free = absurd (false≢true other)
+call-rests s (ends worked) other free = absurd (false≢true other)
+call-rests s stops other free = free
+call-rests s resumes other free = free
+call-rests s points other free = free
+
 between-rests : (w : World) (m : Move) → between m ≡ true → w .dock .endpoint .work .busy ≡ false → act w m .dock .endpoint .work .busy ≡ false
 unfolding handed stepped
-between-rests w (configures packet burst interval) other free = ap (λ (x : Work). x .busy) (configure-rests (w .dock) packet burst interval) ∙ free
-between-rests w (starts request lengths) other free = absurd (false≢true other)
-between-rests w stores other free = absurd (false≢true other)
+between-rests w (calls c) other free =
+    ap (λ (s : State). s .endpoint .work .busy) (booked-dock w _ (part c)) ∙ call-rests (w .dock) c other free
 between-rests w (hands event number) other free = free
-between-rests w (reclaims id) other free = ap (λ (x : Work). x .busy) (reclaim-rests (w .dock) id) ∙ free
-between-rests w (cancels id) other free = free
 between-rests w steps other free = free
 
-made-rests : (ring finished records packets : List ℕ) (slots base mask slot dci : ℕ)
-    → madeOf ring finished records packets slots base mask slot dci .endpoint .work .busy ≡ false
+made-rests : (d : State) → Made d → d .endpoint .work .busy ≡ false
 unfolding make
-made-rests ring finished records packets slots base mask slot dci =
-    picked (λ (t : Changed × List ℕ × List ℕ × List ℕ × List ℕ). t .0 .endpoint .work .busy ≡ false)
+made-rests d (making ring finished records packets slots base mask slot dci done) =
+    picked (λ (t : Changed × List ℕ × List ℕ × List ℕ × List ℕ). madeOf t .endpoint .work .busy ≡ false)
     (eqb (makeNo (length ring) (length finished) (length records) (length packets) slots base slot dci) 0) _ _ (λ t. refl) (λ t. refl)
 
 pub whole-rests : {w : World} → WholeRun w → w .dock .endpoint .work .busy ≡ false
-whole-rests (made ring finished records packets slots base mask slot dci done) = made-rests ring finished records packets slots base mask slot dci
+whole-rests (made {d} m) = made-rests d m
 whole-rests (andThen {w} r m other allowed) = between-rests w m other (whole-rests r)
 whole-rests (andSubmits {w} r request lengths pauses fits) = submitted-rests w (run-sound (whole-run r)) request lengths pauses (whole-rests r)
 
@@ -289,5 +300,5 @@ whole-drains r n enough = drains (whole-run r) (whole-rests r) n enough
 
 -- Whatever the controller does meanwhile, a whole submission leaves the dock as its definition says.
 pub whole-submits : {w : World} → WholeRun w → (request : Request) (lengths : List ℕ) (pauses : ℕ → ℕ)
-    → submitted w request lengths pauses .dock ≡ afterSubmit (w .dock) request lengths
+    → submitted w request lengths pauses .dock ≡ after (w .dock) (submits request lengths)
 whole-submits {w} r request lengths pauses = submitted-is w (run-sound (whole-run r)) request lengths pauses (whole-rests r)

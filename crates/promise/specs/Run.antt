@@ -1,9 +1,9 @@
--- A run: a dock that is made, any calls of it in any order, refused or not, and steps of its controller anywhere, also between two stores. The premises
--- stand in `may`, and are document 01's: "an event handed over is for a TRB that the controller consumed, each at most once, in that order, coded
--- Success or Short Packet, between submissions". An event that the dock refuses is not bound by them, and one that comes while a submission is under way is
--- refused (12). Not every consumed TRB need have an event.
+-- A run: a dock that is made, any calls of it but retire and reset, in any order, refused or not, and steps of its controller anywhere, also between two
+-- stores. The premises stand in `may`, and are document 01's: "an event handed over is for a TRB that the controller consumed, each at most once, in that
+-- order, coded Success or Short Packet, between submissions". An event that the dock refuses is not bound by them, and one that comes while a submission is
+-- under way is refused (12). Not every consumed TRB need have an event.
 use Prim.Native.Nat.{ℕ, zero, suc, _+_}
-use mathlib.Core.Bool.{Bool, true, not, _&&_, _||_}
+use mathlib.Core.Bool.{Bool, true, false, not, _&&_, _||_}
 use mathlib.Core.List.{List, [], _∷_, _++_}
 use mathlib.Core.Path.{_≡_}
 use lib.Dec.{eqb, leb, ltb}
@@ -16,14 +16,13 @@ use Rattle.trb.specs.declared.Words.{Words}
 use Rattle.ring.specs.Ring.{slotAddress}
 use Rattle.records.specs.Records.{recordAt}
 use Rattle.records.specs.declared.Record.{Record}
-use Rattle.dock.specs.declared.Outcome.the-variants.{Done}
 use Rattle.dock.specs.declared.Request.{Request}
 use Rattle.dock.specs.HandOver.{handOverNo}
-use Rattle.dock.specs.Make.{make}
 use Rattle.dock.specs.Reclaim.{codeOf}
+use Rattle.dock.specs.Run.{State, Made, Call, configures, starts, stores, submits, reclaims, cancels, retires, begins, ends, stops, resumes, points, after}
+use Rattle.dock.specs.Run as dock
 use Rattle.dock.specs.Start.{startNo, recordTaken}
 use Rattle.dock.specs.Worth.{accepted}
-use Rattle.dock.proofs.Reached.{State, stateOf, afterConfigure, afterStart, afterStore, afterHandOver, afterReclaim, afterCancel}
 use Rattle.promise.specs.Controller.{Entry, does, goes, with, outset}
 use Rattle.promise.specs.Requested.{trbsOf, typed, laidOut}
 
@@ -49,6 +48,29 @@ admitted w = laidOut (slots w) 0 (w .trbs)
 
 -- ---- what a move does
 
+-- What a call is to a run: the start of a submission, a store of the one that is under way, a call beside submissions, or no call of these runs.
+pub data Part : Type 0 where
+  opening : Request → (lengths : List ℕ) → Part
+  filling : Part
+  aside : Part
+  outside : Part
+
+-- A whole submission comes as its start and stores, and an event as a move of its own, with the number of its TRB. Retire and reset are not in these runs.
+abbrev pub part : Call → Part
+part (configures packet burst interval) = aside
+part (starts request lengths) = opening request lengths
+part stores = filling
+part (submits request lengths) = outside
+part (dock.hands event) = outside
+part (reclaims id) = aside
+part (cancels id) = aside
+part retires = outside
+part begins = outside
+part (ends worked) = outside
+part stops = aside
+part resumes = aside
+part points = aside
+
 abbrev pub withDock : World → State → World
 withDock w d = record { dock = d; controller = w .controller; consumed = w .consumed; trbs = w .trbs; first = w .first; heard = w .heard }
 
@@ -72,11 +94,14 @@ withTrbs w d r ts =
       heard = w .heard;
     }
 
-unfoldable pub started : World → Request → List ℕ → World
-started w request lengths =
+-- The books after a call that leaves the dock so.
+abbrev pub booked : World → State → Part → World
+booked w d (opening request lengths) =
     let e = w .dock .endpoint in
-    let d = afterStart (w .dock) request lengths in
     pick (admits w request lengths) (withTrbs w d (recordTaken e) (trbsOf (e .periodic) request lengths)) (withDock w d)
+booked w d filling = withDock w d
+booked w d aside = withDock w d
+booked w d outside = withDock w d
 
 -- An event is taken where its number is 0.
 unfoldable pub takes : World → Words → Bool
@@ -86,7 +111,7 @@ abbrev pub withHeard : World → State → ℕ → World
 withHeard w d n = record { dock = d; controller = w .controller; consumed = w .consumed; trbs = w .trbs; first = w .first; heard = n }
 
 unfoldable pub handed : World → Words → ℕ → World
-handed w event n = withHeard w (afterHandOver (w .dock) event) (pick (takes w event) (suc n) (w .heard))
+handed w event n = withHeard w (after (w .dock) (dock.hands event)) (pick (takes w event) (suc n) (w .heard))
 
 -- One step of the controller.
 unfoldable pub stepped : World → World
@@ -97,22 +122,26 @@ stepped w =
 
 -- An event is handed over with the number of the TRB that it is for, counted from 0 in the order of consumption.
 pub data Move : Type 0 where
-  configures : (packet burst interval : ℕ) → Move
-  starts : Request → (lengths : List ℕ) → Move
-  stores : Move
+  calls : Call → Move
   hands : (event : Words) (number : ℕ) → Move
-  reclaims : (id : ℕ) → Move
-  cancels : (id : ℕ) → Move
   steps : Move
 
 abbrev pub act : World → Move → World
-act w (configures packet burst interval) = withDock w (afterConfigure (w .dock) packet burst interval)
-act w (starts request lengths) = started w request lengths
-act w stores = withDock w (afterStore (w .dock))
+act w (calls c) = booked w (after (w .dock) c) (part c)
 act w (hands event number) = handed w event number
-act w (reclaims id) = withDock w (afterReclaim (w .dock) id)
-act w (cancels id) = withDock w (afterCancel (w .dock) id)
 act w steps = stepped w
+
+-- Whether it is a move of these runs.
+abbrev pub within : Part → Bool
+within (opening request lengths) = true
+within filling = true
+within aside = true
+within outside = false
+
+abbrev pub ofRuns : Move → Bool
+ofRuns (calls c) = within (part c)
+ofRuns (hands event number) = true
+ofRuns steps = true
 
 -- ---- the premises
 
@@ -130,13 +159,16 @@ isFor w event n =
     && eqb (eventOf event .address) (slotAddress (w .dock .endpoint .shape .base) (slotAt (w .consumed) n))
     && accepted (codeOf event)
 
+-- A request's setup fields are numbers of their types.
+abbrev pub wellTyped : Part → Bool
+wellTyped (opening request lengths) = typed request
+wellTyped filling = true
+wellTyped aside = true
+wellTyped outside = true
+
 abbrev pub may : World → Move → Bool
-may w (configures packet burst interval) = true
-may w (starts request lengths) = typed request
-may w stores = true
+may w (calls c) = within (part c) && wellTyped (part c)
 may w (hands event number) = not (takes w event) || isFor w event number
-may w (reclaims id) = true
-may w (cancels id) = true
 may w steps = true
 
 -- ---- runs
@@ -145,15 +177,8 @@ may w steps = true
 abbrev pub fromMaking : State → World
 fromMaking d = record { dock = d; controller = outset; consumed = []; trbs = []; first = λ r. 0; heard = 0 }
 
-abbrev pub madeOf : List ℕ → List ℕ → List ℕ → List ℕ → ℕ → ℕ → ℕ → ℕ → ℕ → State
-madeOf ring finished records packets slots base mask slot dci =
-    let m = make ring finished records packets slots base mask slot dci in
-    stateOf (m .0 .endpoint) (m .1) (m .2) (m .3) (m .4)
-
 pub data Run : World → Type 0 where
-  made : (ring finished records packets : List ℕ) (slots base mask slot dci : ℕ)
-      → make ring finished records packets slots base mask slot dci .0 .answer ≡ Done
-      → Run (fromMaking (madeOf ring finished records packets slots base mask slot dci))
+  made : {d : State} → Made d → Run (fromMaking d)
   andThen : {w : World} → Run w → (m : Move) → may w m ≡ true → Run (act w m)
 
 -- Many steps of the controller.

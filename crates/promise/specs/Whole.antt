@@ -3,36 +3,35 @@ use Prim.Native.Nat.{ℕ, zero, suc}
 use mathlib.Core.Bool.{Bool, true, false}
 use mathlib.Core.List.{List}
 use mathlib.Core.Path.{_≡_}
-use Rattle.dock.specs.declared.Outcome.the-variants.{Done}
 use Rattle.dock.specs.declared.Request.{Request}
-use Rattle.dock.specs.Make.{make}
+use Rattle.dock.specs.Run.{State, Made, starts, stores}
 use Rattle.dock.specs.Submit.{mostStores}
 use Rattle.promise.specs.Requested.{typed}
-use Rattle.promise.specs.Run.{World, started, stepping, Move, configures, starts, stores, hands, reclaims, cancels, steps, act, may, fromMaking, madeOf}
+use Rattle.promise.specs.Run.{World, Part, opening, filling, aside, outside, part, stepping, Move, calls, hands, steps, act, may, fromMaking}
 
 -- n stores, and before each as many steps of the controller as `pauses` says.
 unfoldable pub storing : ℕ → (ℕ → ℕ) → World → World
 storing zero pauses w = w
-storing (suc n) pauses w = storing n pauses (act (stepping (pauses n) w) stores)
+storing (suc n) pauses w = storing n pauses (act (stepping (pauses n) w) (calls stores))
 
 -- A whole submission: the start, and at least as many stores as it takes. A store with none under way is refused, and changes nothing.
 unfoldable pub submitted : World → Request → List ℕ → (ℕ → ℕ) → World
-submitted w request lengths pauses = storing (mostStores request lengths) pauses (started w request lengths)
+submitted w request lengths pauses = storing (mostStores request lengths) pauses (act w (calls (starts request lengths)))
 
 -- The other moves.
+abbrev pub isAside : Part → Bool
+isAside (opening request lengths) = false
+isAside filling = false
+isAside aside = true
+isAside outside = false
+
 abbrev pub between : Move → Bool
-between (configures packet burst interval) = true
-between (starts request lengths) = false
-between stores = false
+between (calls c) = isAside (part c)
 between (hands event number) = true
-between (reclaims id) = true
-between (cancels id) = true
 between steps = true
 
 pub data WholeRun : World → Type 0 where
-  made : (ring finished records packets : List ℕ) (slots base mask slot dci : ℕ)
-      → make ring finished records packets slots base mask slot dci .0 .answer ≡ Done
-      → WholeRun (fromMaking (madeOf ring finished records packets slots base mask slot dci))
+  made : {d : State} → Made d → WholeRun (fromMaking d)
   andThen : {w : World} → WholeRun w → (m : Move) → between m ≡ true → may w m ≡ true → WholeRun (act w m)
   andSubmits : {w : World} → WholeRun w → (request : Request) (lengths : List ℕ) (pauses : ℕ → ℕ) → typed request ≡ true
       → WholeRun (submitted w request lengths pauses)
