@@ -84,7 +84,7 @@ record-counts (asks.Isoch incoming address size) lengths id place = record {
 -- ---- the records in flight, with one more
 
 module _ (K : ℕ) (records after : List ℕ) (occupancy mask : ℕ) (first : ℕ → ℕ) (total heard r : ℕ) (v : Record)
-    (within : r < recordCount) (clear : bit occupancy r ≡ 0) (set : bit mask r ≡ 1) (others : (q : ℕ) → (q ≡ r → ⊥) → bit mask q ≡ bit occupancy q)
+    (within : r < recordCount) (clear : held occupancy r ≡ false) (set : held mask r ≡ true) (others : (q : ℕ) → (q ≡ r → ⊥) → held mask q ≡ held occupancy q)
     (written : recordAt after r ≡ v) (kept : (q : ℕ) → (q ≡ r → ⊥) → recordAt after q ≡ recordAt records q)
     (flying : v .state ≡ inFlight) (at : (pos K total) .place ≡ v .place) (counts : Counts v)
     (f : Flights K records occupancy first total heard) where
@@ -125,7 +125,7 @@ module _ (K : ℕ) (records after : List ℕ) (occupancy mask : ℕ) (first : �
       ⊎-elim
       (λ (old : j < total).
       let o = f .all j h old in
-      let d : o .owner ≡ r → ⊥ = λ e. omega (arith, by-flies records occupancy (o .owner) .so (o .flying) .0, ap (bit occupancy) e) in
+      let d : o .owner ≡ r → ⊥ = λ e. omega (arith, by-flies records occupancy (o .owner) .so (o .flying) .0, ap (held occupancy) e) in
       record {
         owner = o .owner;
         within = o .within;
