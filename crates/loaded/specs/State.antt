@@ -35,7 +35,7 @@ periodicOf packet burst interval frame =
     record { packet = packet % 2 ^ 16; burst = burst % 2 ^ 8; interval = interval % 2 ^ 8; frame = frame % 2 ^ 16 }
 
 abbrev pub accountOf : ℕ → ℕ → ℕ → Account
-accountOf next occupancy outstanding = record { next = next; occupancy = occupancy; outstanding = outstanding }
+accountOf next occupancy outstanding = record { next = next; occupancy = record { first = occupancy }; outstanding = outstanding }
 
 abbrev pub flagsOf : ℕ → ℕ → Flags
 flagsOf halted reset = record { halted = isSet halted; reset = isSet reset }
@@ -72,7 +72,7 @@ middleWords periodic account =
     ∷ periodic .interval
     ∷ periodic .frame
     ∷ account .next
-    ∷ account .occupancy
+    ∷ account .occupancy .first
     ∷ account .outstanding
     ∷ []
 

@@ -10,6 +10,7 @@ use dock::Identity;
 use dock::Periodic;
 use dock::Shape;
 use dock::Work;
+use mask::Occupancy;
 use ring::Position;
 
 fn position(place: u64, cycle: u64) -> Position
@@ -56,7 +57,7 @@ fn account(next: u64, occupancy: u64, outstanding: u64) -> Account
 {
     Account {
         next,
-        occupancy,
+        occupancy: Occupancy { first: occupancy },
         outstanding,
     }
 }

@@ -16,7 +16,8 @@ use Rattle.ids.specs.Free.{recordWords, recordCount}
 use Rattle.ids.specs.Lookup.{findIn}
 use Rattle.ids.specs.declared.Lookup.{Lookup}
 use Rattle.ids.specs.declared.Lookup.the-variants as lookup
-use Rattle.mask.specs.Compute.{masks.freed}
+use Rattle.mask.specs.Occupancy as masks
+use Rattle.mask.specs.declared.Occupancy.{Occupancy}
 use Rattle.records.specs.Records.{cancelledWord, recordedWord, recordAt, setWord}
 use Rattle.records.proofs.RecordLaws.{word-kept}
 use Rattle.dock.specs.declared.Account.{Account}
@@ -71,7 +72,7 @@ same-after (lookup.At r) records after q =
     (alike-set records r recordedWord (u .0) (omega arith) (λ e. omega arith) (λ e. omega arith) (λ e. omega arith) (λ e. omega arith))))
     q
 
-module _ (K : ℕ) (records : List ℕ) (occupancy : ℕ) (first : ℕ → ℕ) (total heard : ℕ) (f : Flights K records occupancy first total heard) where
+module _ (K : ℕ) (records : List ℕ) (occupancy : Occupancy) (first : ℕ → ℕ) (total heard : ℕ) (f : Flights K records occupancy first total heard) where
   pub flights-same : (after : List ℕ) → Same records after → Flights K after occupancy first total heard
   flights-same after s = record { each = each; all = all }
     where
@@ -112,8 +113,8 @@ module _ (K : ℕ) (records : List ℕ) (occupancy : ℕ) (first : ℕ → ℕ) 
       each : (q : ℕ) → q < recordCount → flies records (masks.freed occupancy r) q ≡ true → Holds K total (first q) (recordAt records q)
       each q m fly =
           let b = by-flies records (masks.freed occupancy r) q .so fly in
-          let held = rw same at (still-held a records r l q (rw same (b .0))) in
-          f .each q m (if-so (by-flies records occupancy q) (held, b .1))
+          let kept = rw same at (still-held a records r l q (rw same (b .0))) in
+          f .each q m (if-so (by-flies records occupancy q) (kept, b .1))
 
       all : (j : ℕ) → heard ≤ j → j < total → Owner records (masks.freed occupancy r) first j
       all j h m =

@@ -16,8 +16,8 @@ use Rattle.ids.specs.Free.{recordCount, idAt}
 use Rattle.ids.specs.Lookup.{findIn}
 use Rattle.ids.specs.declared.Lookup.{Lookup}
 use Rattle.ids.proofs.AnyLaws.{by-held}
-use Rattle.mask.specs.Bit.{bit}
-use Rattle.mask.specs.Compute.{masks.freed}
+use Rattle.mask.specs.Occupancy.{held}
+use Rattle.mask.specs.Occupancy as masks
 use Rattle.trb.specs.declared.Words.{Words}
 use Rattle.records.specs.Records.{inFlight, stopped, recordAt}
 use Rattle.records.specs.declared.Record.{Record}

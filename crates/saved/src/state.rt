@@ -49,7 +49,7 @@ fn put_middle(words: &mut [u64], periodic: Periodic, account: Account)
     words[9] = interval;
     words[10] = frame;
     words[11] = account.next;
-    words[12] = account.occupancy;
+    words[12] = account.occupancy.first;
     words[13] = account.outstanding;
 }
 

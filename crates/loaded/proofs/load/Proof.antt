@@ -1,4 +1,5 @@
--- `load` meets its contract: each part of its own words. Assumes nothing.
+-- `load` meets its contract: each part of its own words. How many words there are is handed over where the search does not reach it. Assumes nothing.
+use native.Mathlib.Omega.{arith}
 use Rattle.loaded.specs.State.{load}
 use borrow.Author.Needs.{needs}
 use Rattle.loaded.proofs.load.Statement.{statement}
@@ -44,7 +45,7 @@ load-spec =
     (λ c. search needs)
     (λ c κs. search needs)
     (λ c. search needs)
-    (λ c. search needs)
+    (λ c. let size = c .before .before .before .before .before .before .before .before .before .before .before .before .before .before .before .before .before .before .before .before .before .before .pre in omega (arith, size))
     (λ c κs. search needs)
     work-at-requires
     returns)
