@@ -1,4 +1,4 @@
--- Which records are held: the one place that knows of how many masks it is made.
+-- Which records are held. What lies behind `held`, `lowest`, `taken` and `freed` is one mask.
 use mathlib.Core.Path.{_≡_}
 use mathlib.Core.Bool.{Bool, true, false}
 use Prim.Native.Nat.{ℕ, _^_, _<_}

@@ -1,10 +1,10 @@
 // Occupancy: which records are held, and which is taken next. It is one 64-bit mask, bit i set while record i is held, and the lowest clear bit is
-// taken. No other crate knows of how many masks it is made.
+// taken. Of how many masks it is made is told here only, and where an endpoint is words (`loaded`, `saved`).
 ghost use mathlib.Core.Path.{_≡_};
 ghost use Prim.Native.Nat.{_<_};
 ghost use lib.Dec.{eqb};
-ghost use Rattle.mask.specs.Bit.{bit};
 ghost use Rattle.sizes.specs.Sizes.{recordCount};
+ghost use Rattle.mask.specs.Bit.{bit};
 ghost use Rattle.mask.specs.Compute.{lowestClear, setBit, clearBit};
 ghost use Rattle.mask.specs.Occupancy.{none, held, lowest, taken, freed};
 
