@@ -8,11 +8,11 @@ use borrow.Author.Tests.{ltb-false, eqb-true, not-false}
 use lib.Dec.{eqb, ltb}
 use lib.ListN.{length}
 use Rattle.base.proofs.Chosen.{quiet}
-use Rattle.mask.specs.Bit.{bit}
-use Rattle.mask.specs.Clear.{Answers}
-use Rattle.mask.specs.Compute.{lowestClear}
+use Rattle.sizes.specs.Sizes.{recordCount}
+use Rattle.mask.specs.Occupancy.{lowest, Tells}
 use Rattle.mask.specs.declared.Found.the-variants.{At}
-use Rattle.mask.proofs.ComputeLaws.{lowest-answers}
+use Rattle.mask.specs.declared.Occupancy.{Occupancy}
+use Rattle.mask.proofs.OccupancyLaws.{lowest-tells}
 use Rattle.packets.specs.Packets.{packetCount}
 use Rattle.dock.specs.Fit.{fitsWith}
 use Rattle.dock.specs.Limits.{packetsSize}
@@ -25,9 +25,9 @@ use Rattle.checks.proofs.Laws.{fit, fit-with}
 use Rattle.admission.specs.Admitted.{Admitted}
 use Rattle.requests.specs.Counts.{givenBy, requiredBy, recordBy}
 
--- The record that is found is one of the 64.
-pub found-within : (m : ℕ) {i : ℕ} → At i ≡ lowestClear m → i < 64
-found-within m e = subst (Answers 64 (bit m)) (sym e) (lowest-answers m) .within
+-- The record that is found is one of the table's.
+pub found-within : (o : Occupancy) {i : ℕ} → At i ≡ lowest o → i < recordCount
+found-within o e = subst (Tells o) (sym e) (lowest-tells o) .within
 
 -- ---- by the number of lengths
 

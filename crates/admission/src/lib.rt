@@ -4,7 +4,7 @@ ghost use mathlib.Core.Bool.{not, _&&_, _||_};
 ghost use Prim.Native.Nat.{_-_};
 ghost use lib.Dec.{eqb, ltb};
 ghost use lib.ListN.{length};
-ghost use Rattle.mask.specs.Compute.{lowestClear};
+ghost use Rattle.mask.specs.Occupancy.{lowest};
 ghost use Rattle.packets.specs.Packets.{packetCount};
 ghost use Rattle.dock.specs.Limits.{packetsSize};
 ghost use Rattle.dock.specs.Fit.{fitsWith};
@@ -14,6 +14,7 @@ ghost use Rattle.requests.specs.Counts.{requiredBy};
 use dock::Endpoint;
 use dock::Request;
 use mask::Found;
+use mask::Occupancy;
 
 // "Data length: bulk, interrupt or one packet at most 65,536; control at most 65,535."
 const LONGEST: u64 = 65536;
@@ -107,10 +108,10 @@ fn is_too_long(request: Request, lengths: &[u64]) -> bool
 }
 
 // Row 4: "all 64 records taken".
-fn is_full(occupancy: u64) -> bool
-    ensures { λ r. ⌜ r ≡ isFull (lowestClear occupancy) ⌝ }
+fn is_full(occupancy: Occupancy) -> bool
+    ensures { λ r. ⌜ r ≡ isFull (lowest occupancy) ⌝ }
 {
-    let found = mask::lowest_clear(occupancy);
+    let found = mask::lowest(occupancy);
     match found {
         Found::At(_) => false,
         Found::Full => true,

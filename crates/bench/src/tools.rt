@@ -11,9 +11,10 @@ use dock::Endpoint;
 pub fn with_next(e: Endpoint, next: u64) -> Endpoint
     ensures { λ r. ⌜ r ≡ withNext e next ⌝ }
 {
+    let occupancy = e.account.occupancy;
     let account = Account {
         next,
-        occupancy: e.account.occupancy,
+        occupancy,
         outstanding: e.account.outstanding,
     };
     let mut after = e;

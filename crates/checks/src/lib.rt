@@ -134,7 +134,7 @@ pub fn strays(e: Endpoint, records: &[u64]) -> bool
     if ids::RECORD_COUNT <= number {
         return true;
     }
-    if !mask::has_bit(e.account.occupancy, number) {
+    if !mask::is_held(e.account.occupancy, number) {
         return true;
     }
     let v = records::record_at(records, number);

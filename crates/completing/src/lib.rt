@@ -43,7 +43,7 @@ pub fn left(e: Endpoint, number: usize, count: u64, halts: bool) -> Endpoint
     let f = e.flags;
     let account = Account {
         next: a.next,
-        occupancy: mask::without_bit(a.occupancy, number),
+        occupancy: mask::freed(a.occupancy, number),
         outstanding: less(a.outstanding, count),
     };
     let flags = Flags {

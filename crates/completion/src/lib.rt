@@ -14,6 +14,7 @@ use dock::Endpoint;
 use dock::Outcome;
 use dock::Taken;
 use ids::Lookup;
+use mask::Occupancy;
 use records::CANCELLED;
 
 // An event is handed over: its place is filled.
@@ -30,7 +31,7 @@ pub fn hand_over(e: Endpoint, finished: &mut [u32], event: trb::Words) -> Taken
 }
 
 // The record with the id is marked as cancelled.
-fn mark(records: &mut [u64], occupancy: u64, id: u64)
+fn mark(records: &mut [u64], occupancy: Occupancy, id: u64)
     requires { ⌜ length (now records) ≡ recordCount * recordWords ⌝ }
     ensures { λ _. ⌜ now (records .exit) ≡ marked (now (records .entry)) (findIn (now (records .entry)) occupancy id) ⌝ }
 {

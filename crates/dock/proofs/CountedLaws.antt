@@ -15,7 +15,7 @@ use Rattle.base.specs.First.{pick}
 use Rattle.base.proofs.Chosen.{quiet}
 use Rattle.base.proofs.Compare.{lt-or-le}
 use Rattle.base.proofs.Decide.{both, by-eqb}
-use Rattle.mask.specs.Bit.{bit}
+use Rattle.mask.specs.Occupancy.{held}
 use Rattle.ids.specs.Free.{recordCount, idAt, heldBy}
 use Rattle.ids.specs.Lookup.{Finds, findIn}
 use Rattle.ids.specs.declared.Lookup.{Lookup}
@@ -125,8 +125,8 @@ module _ (e : Endpoint) (finished records packets : List ℕ) (id r : ℕ) (h : 
 
   within : r < recordCount
   within =
-      subst (λ (f : Lookup). Finds recordCount (heldBy (bit (e .account .occupancy)) (idAt records) id) f) (h .holder)
-      (find-finds recordCount (bit (e .account .occupancy)) (idAt records) id) .within
+      subst (λ (f : Lookup). Finds recordCount (heldBy (held (e .account .occupancy)) (idAt records) id) f) (h .holder)
+      (find-finds recordCount (held (e .account .occupancy)) (idAt records) id) .within
 
   -- What the walk leaves of every packet, and why it ended.
   pub reclaim-settles : Settles (e .shape .slots) finished v r packets swept

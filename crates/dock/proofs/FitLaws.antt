@@ -15,10 +15,9 @@ use Rattle.base.specs.First.{pick, first}
 use Rattle.base.proofs.Chosen.{quiet}
 use Rattle.base.proofs.Compare.{same-or-not}
 use Rattle.base.proofs.Decide.{Decides, both, if-so, by-leb, by-ltb}
-use Rattle.mask.specs.Bit.{bit}
-use Rattle.mask.specs.Compute.{setBit}
-use Rattle.mask.proofs.BitLaws.{bit-none}
-use Rattle.mask.proofs.ComputeLaws.{set-is}
+use Rattle.mask.specs.Occupancy.{held}
+use Rattle.mask.specs.Occupancy as masks
+use Rattle.mask.proofs.OccupancyLaws.{none-free, taken-is}
 use Rattle.ids.specs.Free.{recordCount, recordWords, idAt, heldBy}
 use Rattle.ids.specs.Lookup.{findIn, Finds}
 use Rattle.ids.specs.declared.Lookup.{Lookup}
@@ -269,7 +268,7 @@ fresh-placed slots base mask slot dci ring finished records packets some = recor
   placing = places-true (fresh slots base mask slot dci) (omega arith) (λ (q : 0 + 1 ≡ slots). absurd (omega arith)) (λ b. absurd (never-both b refl));
   straight = strays-none (fresh slots base mask slot dci) records (λ b. absurd (never-both b refl));
   capacity = omega arith;
-  bounds = λ r l f. absurd (omega (arith, by-flies records 0 r .so f .0, bit-none r));
+  bounds = λ r l f. absurd (never-both (by-flies records masks.none r .so f .0) (none-free r));
 }
 
 make-placed : (ring finished records packets : List ℕ) (slots base mask slot dci : ℕ)
@@ -384,18 +383,18 @@ module _ (s : State) (request : Request) (lengths : List ℕ) (h : Sound s) (k :
   unfolding startedRecords
   old-other q d = record-other (s .records) (recordTaken (s .endpoint)) new room q d
 
-  started-bounds : (q : ℕ) → q < recordCount → flies after (setBit (s .endpoint .account .occupancy) (recordTaken (s .endpoint))) q ≡ true
+  started-bounds : (q : ℕ) → q < recordCount → flies after (masks.taken (s .endpoint .account .occupancy) (recordTaken (s .endpoint))) q ≡ true
       → (recordAt after q .place + 1 < s .endpoint .shape .slots) × (recordAt after q .count ≤ packetCount) × Measured (recordAt after q)
   started-bounds q l f =
       let r = recordTaken (s .endpoint) in
       ⊎-elim
       (λ (e : q ≡ r). rw (ap (recordAt after) e ∙ new-here) (below, required-few request lengths (short s request lengths h t), omega arith))
       (λ (d : q ≡ r → ⊥).
-      let is = by-flies after (setBit (s .endpoint .account .occupancy) r) q .so f in
+      let is = by-flies after (masks.taken (s .endpoint .account .occupancy) r) q .so f in
       let same = old-other q d in
       let flew : flies (s .records) (s .endpoint .account .occupancy) q ≡ true =
       if-so (by-flies (s .records) (s .endpoint .account .occupancy) q)
-      (sym (set-is (s .endpoint .account .occupancy) r .others q d) ∙ is .0, sym (ap (λ (x : Record). x .state) same) ∙ is .1) in
+      (sym (taken-is (s .endpoint .account .occupancy) r (taken s request lengths h t .within) .others q d) ∙ is .0, sym (ap (λ (x : Record). x .state) same) ∙ is .1) in
       rw same (k .bounds q l flew))
       (same-or-not q r)
 
@@ -456,15 +455,15 @@ store-placed s h k =
 idle-placed : (s : State) (e : Endpoint) (records packets : List ℕ) → Placed s → placesFit e ≡ true → e .work .busy ≡ false
     → e .shape ≡ s .endpoint .shape → e .account .outstanding ≤ s .endpoint .account .outstanding → Alike (s .records) records
     → ((r : ℕ) → Measured (recordAt (s .records) r) → Measured (recordAt records r))
-    → ((r : ℕ) → r < recordCount → bit (e .account .occupancy) r ≡ 1 → bit (s .endpoint .account .occupancy) r ≡ 1)
+    → ((r : ℕ) → r < recordCount → held (e .account .occupancy) r ≡ true → held (s .endpoint .account .occupancy) r ≡ true)
     → Placed (stateOf e (s .ring) (s .finished) records packets)
-idle-placed s e records packets k p idle shape less alike measured held = record {
+idle-placed s e records packets k p idle shape less alike measured kept = record {
   placing = p;
   straight = strays-none e records (λ b. absurd (never-both b idle));
   capacity = omega (arith, ap (λ (x : Shape). x .slots) shape, k .capacity);
   bounds = λ r l f.
       let is = by-flies records (e .account .occupancy) r .so f in
-      let b = k .bounds r l (if-so (by-flies (s .records) (s .endpoint .account .occupancy) r) (held r l (is .0), sym (alike .state r) ∙ is .1)) in
+      let b = k .bounds r l (if-so (by-flies (s .records) (s .endpoint .account .occupancy) r) (kept r l (is .0), sym (alike .state r) ∙ is .1)) in
       (omega (arith, ap (λ (x : Shape). x .slots) shape, alike .place r, b .0), omega (arith, alike .count r, b .1), measured r (b .2));
 }
 
@@ -563,15 +562,15 @@ pub reached-capacity : {s : State} → Reached s → s .endpoint .account .outst
 reached-capacity r = reached-placed r .capacity
 
 -- and no record that an id finds is bad.
-lookup-fits : (s : State) → Placed s → (id : ℕ) (f : Lookup) → Finds recordCount (heldBy (bit (s .endpoint .account .occupancy)) (idAt (s .records)) id) f
+lookup-fits : (s : State) → Placed s → (id : ℕ) (f : Lookup) → Finds recordCount (heldBy (held (s .endpoint .account .occupancy)) (idAt (s .records)) id) f
     → badRecord (s .endpoint) (s .records) f ≡ false
 lookup-fits s k id lookup.Nothing low = refl
 lookup-fits s k id (lookup.At r) low =
     let v = recordAt (s .records) r in
-    let held = by-held (bit (s .endpoint .account .occupancy)) (idAt (s .records)) id r .so (low .here) in
+    let mine = by-held (held (s .endpoint .account .occupancy)) (idAt (s .records)) id r .so (low .here) in
     ⊎-elim
     (λ (t : eqb (v .state) inFlight ≡ true).
-    let b = k .bounds r (low .within) (if-so (by-flies (s .records) (s .endpoint .account .occupancy) r) (held .0, eqb-true _ _ t)) in
+    let b = k .bounds r (low .within) (if-so (by-flies (s .records) (s .endpoint .account .occupancy) r) (mine .0, eqb-true _ _ t)) in
     rw (t, lt-leb (s .endpoint .shape .slots) (v .place + 1) (b .0), le-ltb packetCount (v .count) (b .1)) (and-false (eqb (v .kind) isoch)))
     (λ (t : eqb (v .state) inFlight ≡ false). rw t)
     (true-or-false (eqb (v .state) inFlight))
@@ -579,7 +578,7 @@ lookup-fits s k id (lookup.At r) low =
 pub reached-not-bad : {s : State} → Reached s → (id : ℕ) → badRecord (s .endpoint) (s .records) (findIn (s .records) (s .endpoint .account .occupancy) id) ≡ false
 reached-not-bad {s} r id =
     lookup-fits s (reached-placed r) id (findIn (s .records) (s .endpoint .account .occupancy) id)
-    (find-finds recordCount (bit (s .endpoint .account .occupancy)) (idAt (s .records)) id)
+    (find-finds recordCount (held (s .endpoint .account .occupancy)) (idAt (s .records)) id)
 
 -- So a configuring, a retire and a reclaim are refused only while a submission is under way (12), and a store only while none is (10).
 pub plain-number : {s : State} → Reached s → plainNo (s .endpoint) ≡ pick (s .endpoint .work .busy) 12 0

@@ -12,13 +12,12 @@ use lib.Seq.{length-paste}
 use Rattle.base.specs.First.{first}
 use Rattle.base.proofs.Chosen.{quiet}
 use Rattle.base.proofs.Decide.{Decides, both, by-eqb, by-ltb, by-leb}
-use Rattle.mask.specs.Bit.{bit}
-use Rattle.mask.specs.Clear.{LowestClear, Answers}
-use Rattle.mask.specs.Compute.{lowestClear}
+use Rattle.mask.specs.Occupancy.{held, LowestFree, Tells}
+use Rattle.mask.specs.Occupancy as masks
 use Rattle.mask.specs.declared.Found.{Found}
 use Rattle.mask.specs.declared.Found.the-variants as place
-use Rattle.mask.proofs.BitLaws.{bit-none}
-use Rattle.mask.proofs.ComputeLaws.{lowest-answers}
+use Rattle.mask.specs.declared.Occupancy.{Occupancy}
+use Rattle.mask.proofs.OccupancyLaws.{none-free, none-sized, lowest-tells}
 use Rattle.ids.specs.Free.{recordCount, idAt, heldBy}
 use Rattle.ids.specs.Lookup.{findIn, Lowest, Finds}
 use Rattle.ids.specs.declared.Lookup.{Lookup}
@@ -118,20 +117,20 @@ module _ (ring finished records packets : List ℕ) (slots base mask slot dci : 
   zeros-long : (l : List ℕ) (n : ℕ) → length l ≡ n → length (zeros l) ≡ n
   zeros-long l n e = length-replicate (length l) 0 ∙ e
 
-  none-held : (r : ℕ) → bit 0 r ≡ 1 → ⊥
-  none-held r h = omega (arith, bit-none r)
+  none-held : (r : ℕ) → held masks.none r ≡ true → ⊥
+  none-held r h = never-both h (none-free r)
 
   books-fresh : (l : List ℕ) → Books (fresh slots base mask slot dci .account) l
   unfolding flightSum
   books-fresh l = record {
     nextAbove = omega arith;
     nextBelow = omega arith;
-    occupancyBelow = omega arith;
+    occupancySized = none-sized;
     states = λ r l h. absurd (none-held r h);
     idAbove = λ r l h. absurd (none-held r h);
     idBelow = λ r l h. absurd (none-held r h);
     distinct = λ r q l m h g e. absurd (none-held r h);
-    outstandingSum = sym (sum-none recordCount (flightPart l 0) (λ r k. part-none l 0 r (λ h. none-held r (h .0))));
+    outstandingSum = sym (sum-none recordCount (flightPart l masks.none) (λ r k. part-none l masks.none r (λ h. none-held r (h .0))));
   }
 
   by-sized : (r f e p : ℕ) → Decides (sized slots r f e p) ((((r ≡ ringSize slots) × (f ≡ ringSize slots)) × (e ≡ recordsSize)) × (p ≡ packetsSize))
@@ -195,9 +194,9 @@ end-sound s worked h =
 
 -- ---- the start of a submission
 
-taken-clear : (m : ℕ) (f : Found) → isFull f ≡ false → Answers 64 (bit m) f → LowestClear 64 (bit m) (numberFrom f)
-taken-clear m (place.At i) t a = a
-taken-clear m place.Full t a = absurd (never-both refl t)
+taken-free : (o : Occupancy) (f : Found) → isFull f ≡ false → Tells o f → LowestFree o (numberFrom f)
+taken-free o (place.At i) t a = a
+taken-free o place.Full t a = absurd (never-both refl t)
 
 at-least-one : (lengths : List ℕ) → length lengths ≤ packetCount → length (atLeastOne lengths) ≤ packetCount
 at-least-one [] h = omega arith
@@ -218,12 +217,12 @@ written-long packets r (Isoch incoming address size) lengths t l h =
 
 module _ (s : State) (request : Request) (lengths : List ℕ) (h : Sound s)
     (t : startNo (s .endpoint) (s .records) (length (s .packets)) request lengths ≡ 0) where
-  pub taken : LowestClear 64 (bit (s .endpoint .account .occupancy)) (recordTaken (s .endpoint))
+  pub taken : LowestFree (s .endpoint .account .occupancy) (recordTaken (s .endpoint))
   unfolding startNo startTests recordTaken
   taken =
-      taken-clear (s .endpoint .account .occupancy) (lowestClear (s .endpoint .account .occupancy))
+      taken-free (s .endpoint .account .occupancy) (masks.lowest (s .endpoint .account .occupancy))
       (quiet (startTests (s .endpoint) (s .records) (length (s .packets)) request lengths) 5 refl t (omega arith))
-      (lowest-answers (s .endpoint .account .occupancy))
+      (lowest-tells (s .endpoint .account .occupancy))
 
   pub short : tooLong request lengths ≡ false
   unfolding startNo startTests
@@ -243,12 +242,12 @@ module _ (s : State) (request : Request) (lengths : List ℕ) (h : Sound s)
         limits = h .limits;
         ringLong = h .ringLong;
         finishedLong = h .finishedLong;
-        recordsLong = taken-long (e .account) (s .records) r v (taken .within) (taken .clear) (h .recordsLong) refl refl (h .books);
+        recordsLong = taken-long (e .account) (s .records) r v (taken .within) (taken .free) (h .recordsLong) refl refl (h .books);
         packetsLong = written-long (s .packets) r request lengths short (taken .within) (h .packetsLong);
-        books = books-taken (e .account) (s .records) r v (taken .within) (taken .clear) (h .recordsLong) refl refl (h .books);
+        books = books-taken (e .account) (s .records) r v (taken .within) (taken .free) (h .recordsLong) refl refl (h .books);
         underway = λ b. record {
           within = taken .within;
-          flying = taken-flies (e .account) (s .records) r v (taken .within) (taken .clear) (h .recordsLong) refl refl (h .books);
+          flying = taken-flies (e .account) (s .records) r v (taken .within) (taken .free) (h .recordsLong) refl refl (h .books);
         };
       }
 
@@ -459,7 +458,7 @@ pub record Untouched (s : State) (t : ReclaimedOne × List ℕ × List ℕ) : Ty
 -- The id's record was looked at, in a call that is not refused.
 pub record Looked (s : State) (id : ℕ) (t : ReclaimedOne × List ℕ × List ℕ) : Type 0 where
   pub number : ℕ
-  pub lowest : Lowest recordCount (heldBy (bit (s .endpoint .account .occupancy)) (idAt (s .records)) id) number
+  pub lowest : Lowest recordCount (heldBy (held (s .endpoint .account .occupancy)) (idAt (s .records)) id) number
   pub allowed : reclaimNo (s .endpoint) (length (s .finished)) (s .records) (length (s .packets)) id ≡ 0
   pub touches : Touches (s .endpoint) (s .records) (s .packets) number (flightPart (s .records) (s .endpoint .account .occupancy) number) t
 
@@ -490,13 +489,13 @@ module _ (s : State) (id : ℕ) (allows : reclaimNo (s .endpoint) (length (s .fi
   abbrev Result : ReclaimedOne × List ℕ × List ℕ → Type 0
   Result t = Untouched s t ⊎ Looked s id t
 
-  at-record : (r : ℕ) → Lowest recordCount (heldBy (bit (s .endpoint .account .occupancy)) (idAt (s .records)) id) r
+  at-record : (r : ℕ) → Lowest recordCount (heldBy (held (s .endpoint .account .occupancy)) (idAt (s .records)) id) r
       → badRecord (s .endpoint) (s .records) (lookup.At r) ≡ false
       → Result (reclaimFound (lookup.At r) (s .endpoint) (s .finished) (s .records) (s .packets))
   at-record r low bad =
       let e = s .endpoint in
       let v = recordAt (s .records) r in
-      let held = by-held (bit (e .account .occupancy)) (idAt (s .records)) id r .so (low .here) in
+      let mine = by-held (held (e .account .occupancy)) (idAt (s .records)) id r .so (low .here) in
       let part = flightPart (s .records) (e .account .occupancy) r in
       let own = own-record-same r (s .records) in
       let same = own-packets-same r (s .packets) in
@@ -512,18 +511,18 @@ module _ (s : State) (id : ℕ) (allows : reclaimNo (s .endpoint) (length (s .fi
       (λ t. picked Result (eqb (v .state) inFlight) _ _
       (λ u.
       let flying = eqb-true (v .state) inFlight u in
-      let mine : v .count ≡ part = sym (part-flies (s .records) (e .account .occupancy) r (held .0) flying) in
+      let whole : v .count ≡ part = sym (part-flies (s .records) (e .account .occupancy) r (mine .0) flying) in
       inr (record {
         number = r;
         lowest = low;
         allowed = allows;
-        touches = subst (λ (n : ℕ). Touches e (s .records) (s .packets) r n (reclaimFlying e (s .finished) (s .records) (s .packets) v r)) mine
+        touches = subst (λ (n : ℕ). Touches e (s .records) (s .packets) r n (reclaimFlying e (s .finished) (s .records) (s .packets) v r)) whole
             (flying-touches e (s .finished) (s .records) (s .packets) r (low .within) (reclaim-long e (length (s .finished)) (s .records) (length (s .packets)) id allows)
             (few-packets e v bad flying));
       }))
       (λ u. inl (record { endpoint = refl; records = refl; packets = refl; unended = refl })))
 
-  found : (f : Lookup) → Finds recordCount (heldBy (bit (s .endpoint .account .occupancy)) (idAt (s .records)) id) f
+  found : (f : Lookup) → Finds recordCount (heldBy (held (s .endpoint .account .occupancy)) (idAt (s .records)) id) f
       → badRecord (s .endpoint) (s .records) f ≡ false → Result (reclaimFound f (s .endpoint) (s .finished) (s .records) (s .packets))
   found lookup.Nothing low bad = inl (record { endpoint = refl; records = refl; packets = refl; unended = refl })
   found (lookup.At r) low bad = at-record r low bad
@@ -539,7 +538,7 @@ reclaim-result s id =
     (eqb (reclaimNo e (length (s .finished)) (s .records) (length (s .packets)) id) 0) _ _
     (λ t.
     found s id (eqb-true _ _ t) (findIn (s .records) (e .account .occupancy) id)
-    (find-finds recordCount (bit (e .account .occupancy)) (idAt (s .records)) id)
+    (find-finds recordCount (held (e .account .occupancy)) (idAt (s .records)) id)
     (quiet ts 1 refl (eqb-true _ _ t) (omega arith)))
     (λ t. inl (record { endpoint = refl; records = refl; packets = refl; unended = refl }))
 

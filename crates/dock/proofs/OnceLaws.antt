@@ -12,8 +12,8 @@ use lib.ListN.{length}
 use Rattle.base.proofs.Chosen.{quiet}
 use Rattle.base.proofs.Compare.{same-or-not}
 use Rattle.base.proofs.Decide.{both, if-so, if-not, by-eqb}
-use Rattle.mask.specs.Bit.{bit}
-use Rattle.mask.specs.Compute.{clearBit}
+use Rattle.mask.specs.Occupancy.{held}
+use Rattle.mask.specs.Occupancy as masks
 use Rattle.ids.specs.Free.{recordCount, recordWords, idAt, heldBy}
 use Rattle.ids.specs.Lookup.{findIn}
 use Rattle.ids.specs.declared.Lookup.{Lookup}
@@ -53,7 +53,7 @@ freeing-exact {s} h r l = freed-exact (s .endpoint .account) (s .records) r l (r
 
 -- Two held records never have one id.
 pub ids-distinct : {s : State} → Reached s → (r q : ℕ) → r < recordCount → q < recordCount
-    → bit (s .endpoint .account .occupancy) r ≡ 1 → bit (s .endpoint .account .occupancy) q ≡ 1 → idAt (s .records) r ≡ idAt (s .records) q → r ≡ q
+    → held (s .endpoint .account .occupancy) r ≡ true → held (s .endpoint .account .occupancy) q ≡ true → idAt (s .records) r ≡ idAt (s .records) q → r ≡ q
 ids-distinct h = reached-sound h .books .distinct
 
 -- The id that a start takes is one that no held record has, in flight or stopped.
@@ -61,7 +61,7 @@ pub taken-id-new : {s : State} → Reached s → findIn (s .records) (s .endpoin
 unfolding idTaken
 taken-id-new {s} h =
     let b = reached-sound h .books in
-    find-new recordCount (bit (s .endpoint .account .occupancy)) (idAt (s .records)) (s .endpoint .account .next) (omega arith) (b .nextAbove) (b .nextBelow)
+    find-new recordCount (held (s .endpoint .account .occupancy)) (idAt (s .records)) (s .endpoint .account .next) (omega arith) (b .nextAbove) (b .nextBelow)
 
 -- ---- calls in a state with nothing under way
 
@@ -150,7 +150,7 @@ module _ (s : State) (h : Sound s) (id : ℕ) where
   pub record Gone : Type 0 where
     pub number : ℕ
     pub within : number < recordCount
-    pub held : bit (s .endpoint .account .occupancy) number ≡ 1
+    pub held : masks.held (s .endpoint .account .occupancy) number ≡ true
     pub named : idAt (s .records) number ≡ id
     pub ready : Ready (s .endpoint)
     pub halts : Bool
@@ -162,7 +162,7 @@ module _ (s : State) (h : Sound s) (id : ℕ) where
       ⊎-elim
       (λ (u : Untouched s result). absurd (never-both over (u .unended)))
       (λ (u : Looked s id result).
-      let is = by-held (bit (s .endpoint .account .occupancy)) (idAt (s .records)) id (u .number) .so (u .lowest .here) in
+      let is = by-held (held (s .endpoint .account .occupancy)) (idAt (s .records)) id (u .number) .so (u .lowest .here) in
       ⊎-elim
       (λ (n : result .0 ≡ nothing (s .endpoint)). absurd (never-both over (ap (λ (x : ReclaimedOne). final (x .answer)) n)))
       (λ (n : Left (s .endpoint) (u .number) (flightPart (s .records) (s .endpoint .account .occupancy) (u .number)) (result .0)).
@@ -181,14 +181,14 @@ module _ (s : State) (h : Sound s) (id : ℕ) where
 
   -- No record has the id then,
   nobody : (g : Gone) (k : ℕ) → k < recordCount
-      → heldBy (bit (leave (s .endpoint) (g .number) (flightPart (s .records) (s .endpoint .account .occupancy) (g .number)) (g .halts) .account .occupancy)) (idAt (result .1)) id k ≡ false
+      → heldBy (masks.held (leave (s .endpoint) (g .number) (flightPart (s .records) (s .endpoint .account .occupancy) (g .number)) (g .halts) .account .occupancy)) (idAt (result .1)) id k ≡ false
   unfolding leave
   nobody g k l =
       let a = s .endpoint .account in
       let r = g .number in
-      if-not (by-held (bit (clearBit (a .occupancy) r)) (idAt (result .1)) id k)
+      if-not (by-held (masks.held (masks.freed (a .occupancy) r)) (idAt (result .1)) id k)
       (λ f. ⊎-elim
-      (λ (e : k ≡ r). omega (arith, f .0, ap (bit (clearBit (a .occupancy) r)) e, freed-here a (s .records) r (g .within)))
+      (λ (e : k ≡ r). never-both (sym (ap (masks.held (masks.freed (a .occupancy) r)) e) ∙ f .0) (freed-here a (s .records) r (g .within)))
       (λ (d : k ≡ r → ⊥).
       d (h .books .distinct k r l (g .within) (sym (freed-other a (s .records) r (g .within) k d) ∙ f .0) (g .held) (sym (g .alike .id k) ∙ f .1 ∙ sym (g .named))))
       (same-or-not k r))
@@ -215,17 +215,17 @@ reclaimed-once {s} h id over =
 
 -- The record that has the id, if one has it.
 abbrev pub Has : State → ℕ → ℕ → Type 0
-Has s id r = (bit (s .endpoint .account .occupancy) r ≡ 1) × (idAt (s .records) r ≡ id)
+Has s id r = (held (s .endpoint .account .occupancy) r ≡ true) × (idAt (s .records) r ≡ id)
 
 holder : (s : State) (id : ℕ) (t : ReclaimedOne × List ℕ × List ℕ) (u : Looked s id t) (q : ℕ) → q ≡ u .number → Has s id q
 holder s id t u q e =
-    let is = by-held (bit (s .endpoint .account .occupancy)) (idAt (s .records)) id (u .number) .so (u .lowest .here) in
-    (ap (bit (s .endpoint .account .occupancy)) e ∙ is .0, ap (idAt (s .records)) e ∙ is .1)
+    let is = by-held (held (s .endpoint .account .occupancy)) (idAt (s .records)) id (u .number) .so (u .lowest .here) in
+    (ap (held (s .endpoint .account .occupancy)) e ∙ is .0, ap (idAt (s .records)) e ∙ is .1)
 
 -- It is the one that is found.
 pub held-found : (s : State) → Sound s → (id r : ℕ) → r < recordCount → Has s id r → findIn (s .records) (s .endpoint .account .occupancy) id ≡ lookup.At r
 held-found s h id r l has =
-    let f = bit (s .endpoint .account .occupancy) in
+    let f = held (s .endpoint .account .occupancy) in
     sym (find-computed recordCount f (idAt (s .records)) id (lookup.At r)
     (record {
       within = l;
@@ -278,7 +278,7 @@ reached-ready r idle = record { fitting = reached-fits r; idle = idle }
 pub unknown-nothing : {s : State} → Reached s → s .endpoint .work .busy ≡ false → (id : ℕ) → ((r : ℕ) → r < recordCount → Has s id r → ⊥)
     → reclaim (s .endpoint) (s .finished) (s .records) (s .packets) id ≡ (nothing (s .endpoint), s .records, s .packets)
 unknown-nothing {s} h idle id unknown =
-    let f = bit (s .endpoint .account .occupancy) in
+    let f = held (s .endpoint .account .occupancy) in
     not-held-nothing s (reached-sound h) (reached-ready h idle) id
     (sym (find-computed recordCount f (idAt (s .records)) id lookup.Nothing (λ k l. if-not (by-held f (idAt (s .records)) id k) (unknown k l))))
 
@@ -324,10 +324,10 @@ module _ (s : State) (h : Sound s) where
   retired-idle : recordNo (s .endpoint) (s .records) ≡ 0 → after s retires .endpoint .work .busy ≡ false
   retired-idle t = rw (retire-is t) (retire-idle t)
 
-  retired-has : recordNo (s .endpoint) (s .records) ≡ 0 → (r : ℕ) → bit (s .endpoint .account .occupancy) r ≡ 1 → Has (after s retires) (idAt (s .records) r) r
-  retired-has t r held =
+  retired-has : recordNo (s .endpoint) (s .records) ≡ 0 → (r : ℕ) → held (s .endpoint .account .occupancy) r ≡ true → Has (after s retires) (idAt (s .records) r) r
+  retired-has t r mine =
       let all = retiring (s .endpoint .account .occupancy) (s .endpoint .account .outstanding) (s .records) (h .recordsLong) recordCount (omega arith) in
-      rw (retire-is t) (held, all .id r)
+      rw (retire-is t) (mine, all .id r)
 
 -- A retire that is done leaves outstanding 0,
 pub retire-empties : {s : State} → Reached s → retire (s .endpoint) (s .records) .0 .answer ≡ Done → after s retires .endpoint .account .outstanding ≡ 0
@@ -345,15 +345,15 @@ retire-holds {s} h done =
 
 -- and each of them stopped.
 pub retire-stops : {s : State} → Reached s → retire (s .endpoint) (s .records) .0 .answer ≡ Done
-    → (r : ℕ) → r < recordCount → bit (s .endpoint .account .occupancy) r ≡ 1 → recordAt (after s retires .records) r .state ≡ stopped
-retire-stops {s} h done r l held =
+    → (r : ℕ) → r < recordCount → held (s .endpoint .account .occupancy) r ≡ true → recordAt (after s retires .records) r .state ≡ stopped
+retire-stops {s} h done r l mine =
     let sound = reached-sound h in
     let t = retire-passed s sound done in
-    rw (retire-is s sound t) (retired-stopped (s .endpoint .account) (s .records) (sound .recordsLong) (sound .books) r l held)
+    rw (retire-is s sound t) (retired-stopped (s .endpoint .account) (s .records) (sound .recordsLong) (sound .books) r l mine)
 
 -- So the id of a record that was held is reclaimed as `Cancelled` (7), once, and cannot be cancelled (6).
 module _ {s : State} (h : Reached s) (done : retire (s .endpoint) (s .records) .0 .answer ≡ Done) (r : ℕ) (l : r < recordCount)
-    (held : bit (s .endpoint .account .occupancy) r ≡ 1) where
+    (mine : held (s .endpoint .account .occupancy) r ≡ true) where
   abbrev t : State
   t = after s retires
 
@@ -367,14 +367,14 @@ module _ {s : State} (h : Reached s) (done : retire (s .endpoint) (s .records) .
   idle-then = retired-idle s (reached-sound h) passed
 
   has-then : Has t its r
-  has-then = retired-has s (reached-sound h) passed r held
+  has-then = retired-has s (reached-sound h) passed r mine
 
   pub retired-cancelled : reclaim (t .endpoint) (t .finished) (t .records) (t .packets) its .0 .answer ≡ answer.Cancelled
   retired-cancelled =
-      ap (λ (x : ReclaimedOne × List ℕ × List ℕ). x .0 .answer) (stopped-reclaimed (next h retires) idle-then its r l has-then (retire-stops h done r l held))
+      ap (λ (x : ReclaimedOne × List ℕ × List ℕ). x .0 .answer) (stopped-reclaimed (next h retires) idle-then its r l has-then (retire-stops h done r l mine))
 
   pub retired-once : let u = after t (reclaims its) in reclaim (u .endpoint) (u .finished) (u .records) (u .packets) its ≡ (nothing (u .endpoint), u .records, u .packets)
-  retired-once = stopped-once (next h retires) idle-then its r l has-then (retire-stops h done r l held)
+  retired-once = stopped-once (next h retires) idle-then its r l has-then (retire-stops h done r l mine)
 
   pub retired-not-cancellable : cancel (t .endpoint) (t .records) its ≡ (Refused 6, t .records)
-  retired-not-cancellable = stopped-refuses-cancel (next h retires) idle-then its r l has-then (retire-stops h done r l held)
+  retired-not-cancellable = stopped-refuses-cancel (next h retires) idle-then its r l has-then (retire-stops h done r l mine)

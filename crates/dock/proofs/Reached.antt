@@ -6,7 +6,9 @@ use mathlib.Core.Logic.{_⊎_}
 use mathlib.Core.Path.{_≡_}
 use lib.ListN.{length}
 use Rattle.base.specs.First.{pick}
-use Rattle.mask.specs.Bit.{bit, sum}
+use Rattle.mask.specs.Bit.{sum}
+use Rattle.mask.specs.Occupancy.{held, Sized}
+use Rattle.mask.specs.declared.Occupancy.{Occupancy}
 use Rattle.ids.specs.Free.{recordCount, idAt}
 use Rattle.records.specs.Records.{inFlight, stopped, recordAt}
 use Rattle.dock.specs.declared.Account.{Account}
@@ -17,30 +19,30 @@ use Rattle.dock.specs.Run.{State, Made, Call, after, Reached, made, next
 -- ---- the invariant
 
 -- What record r adds to outstanding: its TRBs while it is held and in flight.
-unfoldable pub flightPart : List ℕ → ℕ → ℕ → ℕ
+unfoldable pub flightPart : List ℕ → Occupancy → ℕ → ℕ
 flightPart records occupancy r = pick (flies records occupancy r) (recordAt records r .count) 0
 
 -- "Outstanding": the TRBs of all requests in flight.
-unfoldable pub flightSum : List ℕ → ℕ → ℕ
+unfoldable pub flightSum : List ℕ → Occupancy → ℕ
 flightSum records occupancy = sum recordCount (flightPart records occupancy)
 
 -- The account and the records agree.
 pub record Books (a : Account) (records : List ℕ) : Type 0 where
   pub nextAbove : 0 < a .next
   pub nextBelow : a .next < 2 ^ 64
-  pub occupancyBelow : a .occupancy < 2 ^ 64
+  pub occupancySized : Sized (a .occupancy)
   -- every held record is in flight or stopped,
-  pub states : (r : ℕ) → r < recordCount → bit (a .occupancy) r ≡ 1 → (recordAt records r .state ≡ inFlight) ⊎ (recordAt records r .state ≡ stopped)
+  pub states : (r : ℕ) → r < recordCount → held (a .occupancy) r ≡ true → (recordAt records r .state ≡ inFlight) ⊎ (recordAt records r .state ≡ stopped)
   -- and has an id, from 1 to 2^64 - 1,
-  pub idAbove : (r : ℕ) → r < recordCount → bit (a .occupancy) r ≡ 1 → 0 < idAt records r
-  pub idBelow : (r : ℕ) → r < recordCount → bit (a .occupancy) r ≡ 1 → idAt records r < 2 ^ 64
+  pub idAbove : (r : ℕ) → r < recordCount → held (a .occupancy) r ≡ true → 0 < idAt records r
+  pub idBelow : (r : ℕ) → r < recordCount → held (a .occupancy) r ≡ true → idAt records r < 2 ^ 64
   -- that no other held record has.
-  pub distinct : (r q : ℕ) → r < recordCount → q < recordCount → bit (a .occupancy) r ≡ 1 → bit (a .occupancy) q ≡ 1
+  pub distinct : (r q : ℕ) → r < recordCount → q < recordCount → held (a .occupancy) r ≡ true → held (a .occupancy) q ≡ true
       → idAt records r ≡ idAt records q → r ≡ q
   pub outstandingSum : a .outstanding ≡ flightSum records (a .occupancy)
 
 -- A submission under way is that of a held record in flight.
-pub record Underway (number occupancy : ℕ) (records : List ℕ) : Type 0 where
+pub record Underway (number : ℕ) (occupancy : Occupancy) (records : List ℕ) : Type 0 where
   pub within : number < recordCount
   pub flying : flies records occupancy number ≡ true
 

@@ -6,8 +6,8 @@ use mathlib.Core.List.{List, [], _∷_, _++_}
 use mathlib.Core.Path.{_≡_, refl}
 use lib.Dec.{eqb}
 use lib.ListN.{getD, replicate}
-use Rattle.mask.specs.Bit.{bit}
-use Rattle.mask.specs.Compute.{lowestClear, clearFrom, setBit}
+use Rattle.mask.specs.Occupancy.{held, lowest}
+use Rattle.mask.specs.Occupancy as masks
 use Rattle.ids.specs.Free.{freeId, freeFrom, heldBy, any}
 use Rattle.base.specs.Fields.{bits}
 use Rattle.base.specs.Part.{put}
@@ -137,7 +137,7 @@ w8 = isBytes (worth 28 192 100) 100 && isBytes (worth 27 192 100) 0 && isRefused
 -- W9: next id 2^64-1 is taken, then 1.
 w9 : Bool
 w9 =
-    let e = withAccount (dockOf 64) (record { next = 2 ^ 64 - 1; occupancy = 0; outstanding = 0 }) in
+    let e = withAccount (dockOf 64) (record { next = 2 ^ 64 - 1; occupancy = masks.none; outstanding = 0 }) in
     let s = start e noRecords noPackets (Bulk true 131072 64) [] in
     eqb (recordAt (s .1) 0 .id) (2 ^ 64 - 1) && eqb (s .0 .endpoint .account .next) 1
 
@@ -168,5 +168,5 @@ allTrue (b ∷ bs) = b && allTrue bs
 
 -- Every reading holds.
 pub all-read : allTrue readings ≡ true
-unfolding readings allTrue w1 w2 w3w4 w5 w6 w7 w8 w9 w10 admits gets heldWith dockOf isoOf noRecords noPackets stored submitted wordIn slotIn periodicOf startNo startTests crowded tooLong beyond charged recordTaken idTaken startedEndpoint startedRecords writePackets start store storeNo storeTests stepped slotStored ringStored finishedStored settled storedAnswer nextOf trbOf trbCount fits placesFit strays fitsWith limitsHold configure plainNo plainTests worth counts lowestClear clearFrom bit setBit freeId freeFrom heldBy any recordAt wordsOf storeAt putWords put burstsOf packetsOf packetAt
+unfolding readings allTrue w1 w2 w3w4 w5 w6 w7 w8 w9 w10 admits gets heldWith dockOf isoOf noRecords noPackets stored submitted wordIn slotIn periodicOf startNo startTests crowded tooLong beyond charged recordTaken idTaken startedEndpoint startedRecords writePackets start store storeNo storeTests stepped slotStored ringStored finishedStored settled storedAnswer nextOf trbOf trbCount fits placesFit strays fitsWith limitsHold configure plainNo plainTests worth counts held lowest masks.taken freeId freeFrom heldBy any recordAt wordsOf storeAt putWords put burstsOf packetsOf packetAt
 all-read = refl

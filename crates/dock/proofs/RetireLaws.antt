@@ -10,7 +10,9 @@ use lib.ListN.{length}
 use lib.Seq.{getD-set-other}
 use Rattle.base.specs.First.{pick}
 use Rattle.base.proofs.Decide.{if-so, if-not}
-use Rattle.mask.specs.Bit.{bit, sum}
+use Rattle.mask.specs.Bit.{sum}
+use Rattle.mask.specs.Occupancy.{held}
+use Rattle.mask.specs.declared.Occupancy.{Occupancy}
 use Rattle.ids.specs.Free.{recordCount, recordWords, idAt}
 use Rattle.ids.proofs.AnyLaws.{true-or-false, never-both}
 use Rattle.records.specs.Records.{inFlight, stopped, stateWord, recordAt, setWord}
@@ -54,7 +56,7 @@ module _ (records : List ℕ) (r : ℕ) where
 
 -- ---- the records below n
 
-pub record Retiring (n occupancy outstanding : ℕ) (records : List ℕ) (s : ℕ × List ℕ) : Type 0 where
+pub record Retiring (n : ℕ) (occupancy : Occupancy) (outstanding : ℕ) (records : List ℕ) (s : ℕ × List ℕ) : Type 0 where
   pub long : length (s .1) ≡ length records
   pub id : (r : ℕ) → idAt (s .1) r ≡ idAt records r
   pub count : (r : ℕ) → recordAt (s .1) r .count ≡ recordAt records r .count
@@ -63,7 +65,7 @@ pub record Retiring (n occupancy outstanding : ℕ) (records : List ℕ) (s : �
   pub others : (r : ℕ) → flies records occupancy r ≡ false → recordAt (s .1) r .state ≡ recordAt records r .state
   pub rest : sum n (flightPart records occupancy) ≤ outstanding → s .0 + sum n (flightPart records occupancy) ≡ outstanding
 
-module _ (occupancy outstanding : ℕ) (records : List ℕ) (sized : length records ≡ recordsSize) where
+module _ (occupancy : Occupancy) (outstanding : ℕ) (records : List ℕ) (sized : length records ≡ recordsSize) where
   module _ (n : ℕ) (l : n < recordCount) (s : ℕ × List ℕ) (i : Retiring n occupancy outstanding records s) where
     same-flight : flies (s .1) occupancy n ≡ flies records occupancy n
     same-flight =
@@ -144,7 +146,7 @@ module _ (a : Account) (records : List ℕ) (sized : length records ≡ recordsS
 
   -- Nothing flies afterwards,
   pub none-flies : (r : ℕ) → r < recordCount
-      → (bit (a .occupancy) r ≡ 1) × (recordAt (retiredBelow recordCount (a .occupancy) (a .outstanding) records .1) r .state ≡ inFlight) → ⊥
+      → (held (a .occupancy) r ≡ true) × (recordAt (retiredBelow recordCount (a .occupancy) (a .outstanding) records .1) r .state ≡ inFlight) → ⊥
   none-flies r l h =
       ⊎-elim
       (λ (t : flies records (a .occupancy) r ≡ true). omega (arith, all .stops r l t, h .1))
@@ -161,7 +163,7 @@ module _ (a : Account) (records : List ℕ) (sized : length records ≡ recordsS
         omega arith
 
     -- every held record is stopped,
-    pub retired-stopped : (r : ℕ) → r < recordCount → bit (a .occupancy) r ≡ 1
+    pub retired-stopped : (r : ℕ) → r < recordCount → held (a .occupancy) r ≡ true
         → recordAt (retiredBelow recordCount (a .occupancy) (a .outstanding) records .1) r .state ≡ stopped
     retired-stopped r l h =
         ⊎-elim
@@ -183,7 +185,7 @@ module _ (a : Account) (records : List ℕ) (sized : length records ≡ recordsS
         record {
           nextAbove = b .nextAbove;
           nextBelow = b .nextBelow;
-          occupancyBelow = b .occupancyBelow;
+          occupancySized = b .occupancySized;
           states = λ r l h. inr (retired-stopped r l h);
           idAbove = λ r l h. omega (arith, all .id r, b .idAbove r l h);
           idBelow = λ r l h. omega (arith, all .id r, b .idBelow r l h);

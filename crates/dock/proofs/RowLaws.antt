@@ -8,7 +8,7 @@ use lib.Dec.{eqb}
 use lib.ListN.{length}
 use Rattle.base.specs.First.{pick}
 use Rattle.trb.specs.declared.Words.{Words}
-use Rattle.mask.specs.Compute.{lowestClear}
+use Rattle.mask.specs.Occupancy.{lowest}
 use Rattle.ids.specs.Lookup.{findIn}
 use Rattle.dock.specs.declared.Endpoint.{Endpoint}
 use Rattle.dock.specs.declared.Request.{Request}
@@ -97,7 +97,7 @@ module _ (e : Endpoint) (records packets : List ℕ) (request : Request) (length
   crowd = crowded (e .shape .slots) (e .account .outstanding) (required request lengths)
 
   abbrev full : Bool
-  full = isFull (lowestClear (e .account .occupancy))
+  full = isFull (lowest (e .account .occupancy))
 
   abbrev out : Bool
   out = beyond (e .who .mask) (addressOf request) (lengthOf request)

@@ -1,7 +1,7 @@
 -- A start that is admitted takes an id that no held record has, the lowest record that is free, and as many TRBs as the request needs, at most L-2 in
 -- all; it writes that record, changes no other, and leaves position, shape, identity, settings and flags. Assumes nothing.
 use Prim.Native.Nat.{ℕ, _+_, _-_, _*_, _^_, _<_, _≤_}
-use mathlib.Core.Bool.{false, _&&_, false≢true}
+use mathlib.Core.Bool.{true, false, _&&_, false≢true}
 use mathlib.Core.List.{List}
 use mathlib.Core.Logic.{⊎-elim}
 use mathlib.Core.Path.{_≡_, refl, sym, _∙_}
@@ -12,12 +12,11 @@ use lib.ListN.{length}
 use Rattle.base.proofs.Compare.{lt-or-le}
 use Rattle.base.proofs.Decide.{Decides, by-eqb, both}
 use Rattle.base.proofs.Lent.{put-length}
-use Rattle.mask.specs.Bit.{bit, BitIs}
-use Rattle.mask.specs.Clear.{LowestClear, Answers}
-use Rattle.mask.specs.Compute.{lowestClear}
+use Rattle.mask.specs.Occupancy.{held, lowest, HeldIs, LowestFree, Tells}
 use Rattle.mask.specs.declared.Found.{Found}
 use Rattle.mask.specs.declared.Found.the-variants.{At, Full}
-use Rattle.mask.proofs.ComputeLaws.{lowest-answers, set-is}
+use Rattle.mask.specs.declared.Occupancy.{Occupancy}
+use Rattle.mask.proofs.OccupancyLaws.{taken-is, lowest-tells}
 use Rattle.ids.specs.Free.{recordCount, recordWords, isHeld, idAt}
 use Rattle.ids.specs.Order.{afterId}
 use Rattle.ids.proofs.SearchLaws.{answer-free, answer-other}
@@ -34,9 +33,9 @@ use Rattle.dock.proofs.TestLaws.{FitsWith, by-fits-with, by-crowded}
 
 -- ---- what an admitted start may count on
 
-lowest-of : (m : ℕ) (f : Found) → Answers 64 (bit m) f → isFull f ≡ false → LowestClear 64 (bit m) (numberFrom f)
-lowest-of m (At i) a free = a
-lowest-of m Full a free = absurd (false≢true (sym free))
+lowest-of : (o : Occupancy) (f : Found) → Tells o f → isFull f ≡ false → LowestFree o (numberFrom f)
+lowest-of o (At i) a free = a
+lowest-of o Full a free = absurd (false≢true (sym free))
 
 module _ (e : Endpoint) (records packets : List ℕ) (request : Request) (lengths : List ℕ) where
   pub record Starting : Type 0 where
@@ -46,7 +45,7 @@ module _ (e : Endpoint) (records packets : List ℕ) (request : Request) (length
     pub steady : e .flags .reset ≡ false
     pub room : e .account .outstanding + required request lengths ≤ e .shape .slots - 2
     pub short : tooLong request lengths ≡ false
-    pub free : LowestClear 64 (bit (e .account .occupancy)) (recordTaken e)
+    pub free : LowestFree (e .account .occupancy) (recordTaken e)
     pub reach : beyond (e .who .mask) (addressOf request) (lengthOf request) ≡ false
 
   by-tables : Decides (fitsWith e records && eqb (length packets) packetsSize) (FitsWith e records × (length packets ≡ packetsSize))
@@ -70,7 +69,7 @@ module _ (e : Endpoint) (records packets : List ℕ) (request : Request) (length
             (λ (h : e .account .outstanding + more ≤ e .shape .slots - 2). h)
             (lt-or-le (e .shape .slots - 2) (e .account .outstanding + more));
         short = tests 4 (omega arith);
-        free = lowest-of (e .account .occupancy) (lowestClear (e .account .occupancy)) (lowest-answers (e .account .occupancy)) (tests 5 (omega arith));
+        free = lowest-of (e .account .occupancy) (lowest (e .account .occupancy)) (lowest-tells (e .account .occupancy)) (tests 5 (omega arith));
         reach = tests 6 (omega arith);
       }
 
@@ -84,29 +83,29 @@ module _ (e : Endpoint) (records packets : List ℕ) (request : Request) (length
   next-above = let n = starting .fits .endpoint .next in omega arith
 
   -- The id is one that no held record has.
-  pub id-free : e .account .next < 2 ^ 64 → isHeld recordCount (bit (e .account .occupancy)) (idAt records) (idTaken e records) ≡ false
+  pub id-free : e .account .next < 2 ^ 64 → isHeld recordCount (held (e .account .occupancy)) (idAt records) (idTaken e records) ≡ false
   unfolding idTaken
-  id-free small = answer-free recordCount (bit (e .account .occupancy)) (idAt records) (e .account .next) (omega arith) next-above small
+  id-free small = answer-free recordCount (held (e .account .occupancy)) (idAt records) (e .account .next) (omega arith) next-above small
 
-  pub id-other : e .account .next < 2 ^ 64 → (r : ℕ) → r < recordCount → bit (e .account .occupancy) r ≡ 1 → idTaken e records ≡ recordAt records r .id → ⊥
+  pub id-other : e .account .next < 2 ^ 64 → (r : ℕ) → r < recordCount → held (e .account .occupancy) r ≡ true → idTaken e records ≡ recordAt records r .id → ⊥
   unfolding idTaken
-  id-other small r l held q =
-      answer-other recordCount (bit (e .account .occupancy)) (idAt records) (e .account .next) (omega arith) next-above small r l held (q ∙ id-is records r)
+  id-other small r l mine q =
+      answer-other recordCount (held (e .account .occupancy)) (idAt records) (e .account .next) (omega arith) next-above small r l mine (q ∙ id-is records r)
 
   -- The record is the lowest that is free.
   pub record-below : recordTaken e < recordCount
   record-below = starting .free .within
 
-  pub record-free : bit (e .account .occupancy) (recordTaken e) ≡ 0
-  record-free = starting .free .clear
+  pub record-free : held (e .account .occupancy) (recordTaken e) ≡ false
+  record-free = starting .free .free
 
-  pub record-lowest : (r : ℕ) → r < recordTaken e → bit (e .account .occupancy) r ≡ 1
+  pub record-lowest : (r : ℕ) → r < recordTaken e → held (e .account .occupancy) r ≡ true
   record-lowest = starting .free .lower
 
   -- Afterwards it is held, and every other record as it was.
-  pub record-taken : BitIs (bit (e .account .occupancy)) (recordTaken e) 1 (bit (startedEndpoint e records request lengths .account .occupancy))
+  pub record-taken : HeldIs (e .account .occupancy) (recordTaken e) true (startedEndpoint e records request lengths .account .occupancy)
   unfolding startedEndpoint charged
-  record-taken = set-is (e .account .occupancy) (recordTaken e)
+  record-taken = taken-is (e .account .occupancy) (recordTaken e) record-below
 
   -- The TRBs outstanding: as many more as the request needs, and at most L-2.
   pub outstanding-after : startedEndpoint e records request lengths .account .outstanding ≡ e .account .outstanding + required request lengths

@@ -4,17 +4,17 @@ use Prim.Native.Nat.{ℕ, zero, suc, _+_, _-_, _*_, _%_, _^_, _<_, _≤_}
 use mathlib.Core.Bool.{Bool, true, false, not, _&&_, false≢true}
 use mathlib.Core.List.{List, [], _∷_}
 use mathlib.Core.Logic.{_⊎_, inl, inr}
-use mathlib.Core.Path.{_≡_, refl, sym}
+use mathlib.Core.Path.{_≡_, refl, sym, _∙_}
 use native.Mathlib.Omega.{arith}
 use lib.Dec.{ltb, leb}
 use lib.ListN.{length, getD}
 use Rattle.base.proofs.Decide.{Decides, by-leb, by-ltb, by-eqb, by-true, by-false, both, either, negated, reworded}
-use Rattle.mask.specs.Bit.{bit}
-use Rattle.mask.specs.Clear.{Answers}
-use Rattle.mask.specs.Compute.{lowestClear}
+use Rattle.mask.specs.Occupancy.{Tells}
+use Rattle.mask.specs.Occupancy as masks
 use Rattle.mask.specs.declared.Found.{Found}
 use Rattle.mask.specs.declared.Found.the-variants.{At, Full}
-use Rattle.mask.proofs.ComputeLaws.{lowest-answers}
+use Rattle.mask.specs.declared.Occupancy.{Occupancy}
+use Rattle.mask.proofs.OccupancyLaws.{lowest-tells}
 use Rattle.event.specs.Event.{eventOf}
 use Rattle.trb.specs.declared.Words.{Words}
 use Rattle.ring.specs.Ring.{slotOf}
@@ -125,7 +125,7 @@ held-to false b s t = absurd (false≢true t)
 -- The submission under way has a record that is held and in flight, and a store that is left.
 pub record OnCourse (e : Endpoint) (records : List ℕ) : Type 0 where
   pub number : e .work .number < recordCount
-  pub held : bit (e .account .occupancy) (e .work .number) ≡ 1
+  pub held : masks.held (e .account .occupancy) (e .work .number) ≡ true
   pub flying : recordAt records (e .work .number) .state ≡ inFlight
   pub counted : e .work .stored ≤ trbCount (recordAt records (e .work .number))
   pub more : isNone (nextOf e (recordAt records (e .work .number))) ≡ false
@@ -146,7 +146,7 @@ module _ (e : Endpoint) (records : List ℕ) where
       (λ k. (((k .number, (k .held, k .flying)), k .counted), k .more))
       (both
       (both
-      (both (by-ltb (e .work .number) recordCount) (both (by-eqb (bit (e .account .occupancy) (e .work .number)) 1) (by-eqb (v .state) inFlight)))
+      (both (by-ltb (e .work .number) recordCount) (both (by-true (masks.held (e .account .occupancy) (e .work .number))) (by-eqb (v .state) inFlight)))
       (by-leb (e .work .stored) (trbCount v)))
       (by-false (isNone (nextOf e v))))
 
@@ -229,15 +229,15 @@ module _ (incoming : Bool) (address size : ℕ) (lengths : List ℕ) where
   by-too-long-isoch = either (either (by-ltb packetCount (length lengths)) (none-over lengths)) (by-ltb size (sumOf lengths))
 
 -- Row 4: "all 64 records taken".
-full-or-not : (m : ℕ) (f : Found) → Answers 64 (bit m) f → Decides (isFull f) ((k : ℕ) → k < 64 → bit m k ≡ 1)
-full-or-not m (At i) a = record {
+full-or-not : (o : Occupancy) (f : Found) → Tells o f → Decides (isFull f) ((k : ℕ) → k < recordCount → masks.held o k ≡ true)
+full-or-not o (At i) a = record {
   so = λ e. absurd (false≢true e);
-  not-so = λ e all. let set = all i (a .within) in let clear = a .clear in omega arith;
+  not-so = λ e all. false≢true (sym (a .free) ∙ all i (a .within));
 }
-full-or-not m Full a = record { so = λ e. a; not-so = λ e all. false≢true (sym e) }
+full-or-not o Full a = record { so = λ e. a; not-so = λ e all. false≢true (sym e) }
 
-pub by-full : (m : ℕ) → Decides (isFull (lowestClear m)) ((k : ℕ) → k < 64 → bit m k ≡ 1)
-by-full m = full-or-not m (lowestClear m) (lowest-answers m)
+pub by-full : (o : Occupancy) → Decides (isFull (masks.lowest o)) ((k : ℕ) → k < recordCount → masks.held o k ≡ true)
+by-full o = full-or-not o (masks.lowest o) (lowest-tells o)
 
 -- ---- row 11
 

@@ -5,7 +5,8 @@ use mathlib.Core.List.{List}
 use lib.Dec.{eqb, ltb, leb}
 use lib.ListN.{length}
 use Rattle.base.specs.First.{pick}
-use Rattle.mask.specs.Bit.{bit}
+use Rattle.mask.specs.Occupancy.{held}
+use Rattle.mask.specs.declared.Occupancy.{Occupancy}
 use Rattle.ids.specs.Free.{recordCount}
 use Rattle.records.specs.Records.{control, inFlight, recordAt}
 use Rattle.records.specs.declared.Record.{Record}
@@ -46,8 +47,8 @@ isNone theSetup = false
 isNone none = true
 
 -- A record is held and in flight.
-abbrev pub flies : List ℕ → ℕ → ℕ → Bool
-flies records occupancy r = eqb (bit occupancy r) 1 && eqb (recordAt records r .state) inFlight
+abbrev pub flies : List ℕ → Occupancy → ℕ → Bool
+flies records occupancy r = held occupancy r && eqb (recordAt records r .state) inFlight
 
 -- "A store number past its request's stores": a submission under way whose record is no held one in flight, or whose stores are all made.
 unfoldable pub strays : Endpoint → List ℕ → Bool

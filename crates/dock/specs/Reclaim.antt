@@ -5,7 +5,7 @@ use mathlib.Core.List.{List, [], _∷_}
 use lib.Dec.{eqb, ltb, leb}
 use lib.ListN.{length}
 use Rattle.base.specs.First.{pick, first}
-use Rattle.mask.specs.Compute.{clearBit}
+use Rattle.mask.specs.Occupancy as masks
 use Rattle.ids.specs.Lookup.{findIn}
 use Rattle.ids.specs.declared.Lookup.{Lookup}
 use Rattle.ids.specs.declared.Lookup.the-variants.{At, Nothing}
@@ -33,7 +33,7 @@ use Rattle.dock.specs.Worth.{accepted, movedBytes, Worth, bytes, refused
 -- "Leaving flight (freed or retired) takes a request's TRB count off outstanding, never below 0."
 abbrev pub freed : Account → ℕ → ℕ → Account
 freed a number count =
-    record { next = a .next; occupancy = clearBit (a .occupancy) number; outstanding = a .outstanding - count }
+    record { next = a .next; occupancy = masks.freed (a .occupancy) number; outstanding = a .outstanding - count }
 
 -- The endpoint with record `number` freed, `count` TRBs less outstanding, and halted where it is to be.
 unfoldable pub leave : Endpoint → ℕ → ℕ → Bool → Endpoint

@@ -4,6 +4,7 @@ use mathlib.Core.Bool.{Bool, not}
 use mathlib.Core.List.{List, [], _∷_}
 use lib.Dec.{eqb}
 use Rattle.base.specs.First.{pick, first}
+use Rattle.mask.specs.declared.Occupancy.{Occupancy}
 use Rattle.ids.specs.Free.{recordCount}
 use Rattle.records.specs.Records.{stateWord, stopped, recordAt, setWord}
 use Rattle.dock.specs.declared.Changed.{Changed}
@@ -20,7 +21,7 @@ unfoldable pub recordNo : Endpoint → List ℕ → ℕ
 recordNo e records = first (recordTests e records)
 
 -- The records below r, one after the other: outstanding and the table.
-unfoldable pub retiredBelow : ℕ → ℕ → ℕ → List ℕ → ℕ × List ℕ
+unfoldable pub retiredBelow : ℕ → Occupancy → ℕ → List ℕ → ℕ × List ℕ
 retiredBelow zero occupancy outstanding records = (outstanding, records)
 retiredBelow (suc r) occupancy outstanding records =
     let s = retiredBelow r occupancy outstanding records in

@@ -7,7 +7,7 @@ use lib.ListN.{length}
 use lib.Seq.{paste}
 use Rattle.base.specs.First.{pick, first}
 use Rattle.base.specs.Part.{put}
-use Rattle.mask.specs.Compute.{lowestClear, setBit}
+use Rattle.mask.specs.Occupancy as masks
 use Rattle.mask.specs.declared.Found.{Found}
 use Rattle.mask.specs.declared.Found.the-variants.{At, Full}
 use Rattle.ids.specs.Free.{recordWords, freeIn}
@@ -65,7 +65,7 @@ startTests e records packets request lengths =
     ∷ (e .flags .reset, 2)
     ∷ (crowded (e .shape .slots) (e .account .outstanding) (required request lengths), 2)
     ∷ (tooLong request lengths, 3)
-    ∷ (isFull (lowestClear (e .account .occupancy)), 4)
+    ∷ (isFull (masks.lowest (e .account .occupancy)), 4)
     ∷ (beyond (e .who .mask) (addressOf request) (lengthOf request), 5)
     ∷ []
 
@@ -80,7 +80,7 @@ numberFrom (At i) = i
 numberFrom Full = 0
 
 unfoldable pub recordTaken : Endpoint → ℕ
-recordTaken e = numberFrom (lowestClear (e .account .occupancy))
+recordTaken e = numberFrom (masks.lowest (e .account .occupancy))
 
 -- "The search for a free id starts at the next id and ends at the first one not held."
 unfoldable pub idTaken : Endpoint → List ℕ → ℕ
@@ -89,7 +89,7 @@ idTaken e records = freeIn records (e .account .occupancy) (e .account .next)
 -- The account's part: id, record and count.
 unfoldable pub charged : Account → ℕ → ℕ → ℕ → Account
 charged a id number more =
-    record { next = afterId id; occupancy = setBit (a .occupancy) number; outstanding = a .outstanding + more }
+    record { next = afterId id; occupancy = masks.taken (a .occupancy) number; outstanding = a .outstanding + more }
 
 -- The submission that is then under way.
 abbrev pub begun : Endpoint → ℕ → Request → Work

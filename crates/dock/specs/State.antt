@@ -1,6 +1,7 @@
 -- The state that making leaves, and an endpoint with one of its parts exchanged.
 use Prim.Native.Nat.{ℕ}
 use mathlib.Core.Bool.{true, false}
+use Rattle.mask.specs.Occupancy as masks
 use Rattle.ring.specs.declared.Position.{Position}
 use Rattle.dock.specs.declared.Account.{Account}
 use Rattle.dock.specs.declared.Endpoint.{Endpoint}
@@ -20,7 +21,7 @@ fresh slots base mask slot dci =
       shape = record { slots = slots; base = base };
       who = record { slot = slot; dci = dci; mask = mask };
       periodic = record { packet = 0; burst = 0; interval = 1; frame = 0 };
-      account = record { next = 1; occupancy = 0; outstanding = 0 };
+      account = record { next = 1; occupancy = masks.none; outstanding = 0 };
       flags = record { halted = false; reset = false };
       work = idle;
     }
@@ -33,7 +34,7 @@ blank =
       shape = record { slots = 0; base = 0 };
       who = record { slot = 0; dci = 0; mask = 0 };
       periodic = record { packet = 0; burst = 0; interval = 0; frame = 0 };
-      account = record { next = 0; occupancy = 0; outstanding = 0 };
+      account = record { next = 0; occupancy = masks.none; outstanding = 0 };
       flags = record { halted = false; reset = false };
       work = idle;
     }

@@ -2,6 +2,7 @@
 //
 // An endpoint is a value: a call takes it and gives it back. Four tables are lent beside it, as slices of numbers: the ring (four words a slot),
 // the finished table (four words a place), the request records (twelve words a record) and the packet records (one word a packet).
+use mask::Occupancy;
 use ring::Position;
 
 // The ring's numbers: its slots, L in document 01, and the address of slot 0.
@@ -28,7 +29,7 @@ pub struct Periodic {
 // What a submission takes and a completion gives back: the next id, the held records, the TRBs of the requests in flight.
 pub struct Account {
     pub next: u64,
-    pub occupancy: u64,
+    pub occupancy: Occupancy,
     pub outstanding: u64,
 }
 

@@ -7,7 +7,7 @@ use Prim.Native.Nat.{ℕ, zero, suc, _+_, _-_, _^_, _<_}
 use native.Mathlib.Nat.{eq-or-lt-of-le, le-of-suc-le-suc}
 use native.Mathlib.Omega.{arith}
 use borrow.Author.Tests.{eq-eqb, ne-eqb}
-use Rattle.base.proofs.Decide.{Decides, both, by-eqb}
+use Rattle.base.proofs.Decide.{Decides, both, by-eqb, by-true}
 use Rattle.ids.specs.Order.{afterId}
 use Rattle.ids.specs.Free.{any, heldBy}
 
@@ -57,9 +57,9 @@ any-false n test e k l =
 
 -- ---- one record
 
-pub by-held : (f ids : ℕ → ℕ) (x r : ℕ) → Decides (heldBy f ids x r) ((f r ≡ 1) × (ids r ≡ x))
+pub by-held : (f : ℕ → Bool) (ids : ℕ → ℕ) (x r : ℕ) → Decides (heldBy f ids x r) ((f r ≡ true) × (ids r ≡ x))
 unfolding heldBy
-by-held f ids x r = both (by-eqb (f r) 1) (by-eqb (ids r) x)
+by-held f ids x r = both (by-true (f r)) (by-eqb (ids r) x)
 
 -- ---- the next id
 

@@ -53,7 +53,7 @@ from (suc n) test r below =
     more : test r ≡ false → (k : ℕ) → k < suc r → test k ≡ false
     more e k l = ⊎-elim (λ (q : k ≡ r). ap test q ∙ e) (λ (h : k < r). below k h) (eq-or-lt-of-le (le-of-suc-le-suc l))
 
-module _ (n : ℕ) (f ids : ℕ → ℕ) (x : ℕ) where
+module _ (n : ℕ) (f : ℕ → Bool) (ids : ℕ → ℕ) (x : ℕ) where
   pub find-finds : Finds n (heldBy f ids x) (findId n f ids x)
   unfolding findId
   find-finds =
@@ -69,5 +69,5 @@ module _ (n : ℕ) (f ids : ℕ → ℕ) (x : ℕ) where
   find-none e = sym (find-computed Nothing (any-false n (heldBy f ids x) e))
 
 -- the id that a search gives is not found: it is new
-pub find-new : (n : ℕ) (f ids : ℕ → ℕ) (s : ℕ) → n < 2 ^ 64 - 1 → 0 < s → s < 2 ^ 64 → findId n f ids (freeId n f ids s) ≡ Nothing
+pub find-new : (n : ℕ) (f : ℕ → Bool) (ids : ℕ → ℕ) (s : ℕ) → n < 2 ^ 64 - 1 → 0 < s → s < 2 ^ 64 → findId n f ids (freeId n f ids s) ≡ Nothing
 find-new n f ids s few hs gs = find-none n f ids (freeId n f ids s) (answer-free n f ids s few hs gs)

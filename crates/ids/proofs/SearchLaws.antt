@@ -11,6 +11,7 @@ use native.Mathlib.Nat.{eq-or-lt-of-le, suc-add}
 use native.Mathlib.Omega.{arith}
 use borrow.Author.Tests.{lt-ltb, le-ltb}
 use lib.Dec.{ltb}
+use Rattle.base.specs.Fields.{flag}
 use Rattle.base.specs.First.{pick}
 use Rattle.base.proofs.Decide.{if-so}
 use Rattle.mask.specs.Bit.{sum}
@@ -123,10 +124,10 @@ more-steps held (suc n) m x e =
 
 -- ---- the search, from s, at the candidate x
 
-module _ (n : ℕ) (f ids : ℕ → ℕ) (s : ℕ) where
+module _ (n : ℕ) (f : ℕ → Bool) (ids : ℕ → ℕ) (s : ℕ) where
   -- 1 for a held record whose id is not yet passed at x
   pub waits : ℕ → ℕ → ℕ
-  waits x r = min (f r) (1 - (dist s x - dist s (ids r)))
+  waits x r = min (flag (f r)) (1 - (dist s x - dist s (ids r)))
 
   -- how many of those there are
   pub left : ℕ → ℕ
@@ -159,10 +160,10 @@ module _ (n : ℕ) (f ids : ℕ → ℕ) (s : ℕ) where
     }
 
     -- the record that holds x is counted at x, and not at the next id
-    module _ (x r : ℕ) (t : Trying x) (l : r < n) (u : f r ≡ 1) (e : ids r ≡ x) where
+    module _ (x r : ℕ) (t : Trying x) (l : r < n) (u : f r ≡ true) (e : ids r ≡ x) where
       counted : waits x r ≡ 1
       unfolding waits
-      counted = omega (arith, ap (dist s) e)
+      counted = omega (arith, ap flag u, ap (dist s) e)
 
       some-left : 0 < left x
       unfolding left
@@ -223,7 +224,7 @@ module _ (n : ℕ) (f ids : ℕ → ℕ) (s : ℕ) where
     answer-free = settles n s (omega (arith, dist-start)) trying-start
 
     -- so it is the id of no held record, in flight or stopped
-    pub answer-other : (r : ℕ) → r < n → f r ≡ 1 → freeId n f ids s ≡ ids r → ⊥
+    pub answer-other : (r : ℕ) → r < n → f r ≡ true → freeId n f ids s ≡ ids r → ⊥
     answer-other r l u e =
         never-both (any-one n r (heldBy f ids (freeId n f ids s)) l (if-so (by-held f ids (freeId n f ids s) r) (u, sym e))) answer-free
 

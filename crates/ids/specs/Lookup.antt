@@ -3,7 +3,8 @@ use mathlib.Core.Path.{_≡_}
 use mathlib.Core.Bool.{Bool, true, false}
 use mathlib.Core.List.{List}
 use Prim.Native.Nat.{ℕ, zero, suc, _<_}
-use Rattle.mask.specs.Bit.{bit}
+use Rattle.mask.specs.Occupancy.{held}
+use Rattle.mask.specs.declared.Occupancy.{Occupancy}
 use Rattle.ids.specs.Free.{heldBy, recordCount, idAt}
 use Rattle.ids.specs.declared.Lookup.{Lookup}
 use Rattle.ids.specs.declared.Lookup.the-variants.{At, Nothing}
@@ -14,7 +15,7 @@ findFrom zero test r = Nothing
 findFrom (suc n) test r = elim (test r) [ true ↦ At r | false ↦ findFrom n test (suc r) ]
 
 -- The record that has the id x: of two records with one id the lower counts.
-unfoldable pub findId : ℕ → (ℕ → ℕ) → (ℕ → ℕ) → ℕ → Lookup
+unfoldable pub findId : ℕ → (ℕ → Bool) → (ℕ → ℕ) → ℕ → Lookup
 findId n f ids x = findFrom n (heldBy f ids x) 0
 
 -- Record r passes the test, and no lower one does.
@@ -28,6 +29,6 @@ abbrev pub Finds : (n : ℕ) → (ℕ → Bool) → Lookup → Type 0
 Finds n test (At r) = Lowest n test r
 Finds n test Nothing = (k : ℕ) → k < n → test k ≡ false
 
--- The record of a table that has the id x, where the records whose bit in the mask is set are held.
-abbrev pub findIn : List ℕ → ℕ → ℕ → Lookup
-findIn records mask x = findId recordCount (bit mask) (idAt records) x
+-- The record of a table that has the id x, where the records are held that the occupancy says.
+abbrev pub findIn : List ℕ → Occupancy → ℕ → Lookup
+findIn records occupancy x = findId recordCount (held occupancy) (idAt records) x

@@ -1,10 +1,11 @@
-// The first free request id, and the lowest held record with an id, over the words of 64 records and the mask of those that are held.
+// The first free request id, and the lowest held record with an id, over the words of 64 records and the occupancy, which says those that are held.
 ghost use mathlib.Core.Path.{_≡_};
 ghost use Prim.Native.Nat.{_*_, _<_};
 ghost use lib.ListN.{length};
 ghost use Rattle.ids.specs.Order.{afterId};
 ghost use Rattle.ids.specs.Free.{recordWords, recordCount, freeIn, taken};
 ghost use Rattle.ids.specs.Lookup.{findIn};
+use mask::Occupancy;
 
 // The words of a record, of which the first is its id.
 pub const RECORD_WORDS: usize = 12;
@@ -31,16 +32,16 @@ pub fn after(id: u64) -> u64
     if id == u64::MAX { 1 } else { id + 1 }
 }
 
-// The first id from `next` on that no held record has. A record is held while its bit in the mask is set, in flight or stopped.
-pub fn free_id(records: &[u64], mask: u64, next: u64) -> Taken
+// The first id from `next` on that no held record has. A record is held that the occupancy says, in flight or stopped.
+pub fn free_id(records: &[u64], occupancy: Occupancy, next: u64) -> Taken
     requires { ⌜ (length (now records) ≡ recordCount * recordWords) × (0 < next) ⌝ }
-    ensures { λ r. ⌜ r ≡ taken (freeIn (now (records .entry)) mask next) ⌝ }
+    ensures { λ r. ⌜ r ≡ taken (freeIn (now (records .entry)) occupancy next) ⌝ }
 {
     let mut candidate = next;
     let id = 'ids: loop {
         let mut r: usize = 0;
         while r < RECORD_COUNT {
-            if mask::has_bit(mask, r) {
+            if mask::is_held(occupancy, r) {
                 if records[RECORD_WORDS * r] == candidate {
                     candidate = after(candidate);
                     continue 'ids;
@@ -57,13 +58,13 @@ pub fn free_id(records: &[u64], mask: u64, next: u64) -> Taken
 }
 
 // The held record with the id, the lowest of several.
-pub fn find_id(records: &[u64], mask: u64, id: u64) -> Lookup
+pub fn find_id(records: &[u64], occupancy: Occupancy, id: u64) -> Lookup
     requires { ⌜ length (now records) ≡ recordCount * recordWords ⌝ }
-    ensures { λ r. ⌜ r ≡ findIn (now (records .entry)) mask id ⌝ }
+    ensures { λ r. ⌜ r ≡ findIn (now (records .entry)) occupancy id ⌝ }
 {
     let mut at: usize = 0;
     while at < RECORD_COUNT {
-        if mask::has_bit(mask, at) {
+        if mask::is_held(occupancy, at) {
             if records[RECORD_WORDS * at] == id {
                 return Lookup::At(at);
             }

@@ -68,10 +68,10 @@ abbrev pub accountFrom : ℕ
 accountFrom = periodicFrom + 4
 
 abbrev pub accountWords : Account → List ℕ
-accountWords a = a .next ∷ a .occupancy ∷ a .outstanding ∷ []
+accountWords a = a .next ∷ a .occupancy .first ∷ a .outstanding ∷ []
 
 abbrev pub accountAt : List ℕ → Account
-accountAt w = record { next = getD w accountFrom 0; occupancy = getD w (accountFrom + 1) 0; outstanding = getD w (accountFrom + 2) 0 }
+accountAt w = record { next = getD w accountFrom 0; occupancy = record { first = getD w (accountFrom + 1) 0 }; outstanding = getD w (accountFrom + 2) 0 }
 
 -- ---- flags
 

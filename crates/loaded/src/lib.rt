@@ -12,6 +12,7 @@ use dock::Identity;
 use dock::Periodic;
 use dock::Shape;
 use dock::Work;
+use mask::Occupancy;
 use ring::Position;
 
 // The word from which each part stands.
@@ -81,7 +82,9 @@ fn account(words: &[u64]) -> Account
 {
     Account {
         next: words[ACCOUNT],
-        occupancy: words[ACCOUNT + 1],
+        occupancy: Occupancy {
+            first: words[ACCOUNT + 1],
+        },
         outstanding: words[ACCOUNT + 2],
     }
 }

@@ -68,7 +68,7 @@ pub fn blank() -> Endpoint
         },
         account: Account {
             next: 0,
-            occupancy: 0,
+            occupancy: mask::none(),
             outstanding: 0,
         },
         flags: Flags {
@@ -98,7 +98,7 @@ fn fresh(slots: usize, base: u64, mask: u64, slot: u8, dci: u8) -> Endpoint
         },
         account: Account {
             next: 1,
-            occupancy: 0,
+            occupancy: mask::none(),
             outstanding: 0,
         },
         flags: Flags {

@@ -2,3 +2,4 @@
 pub mod Bit
 pub mod Clear
 pub mod Compute
+pub mod Occupancy

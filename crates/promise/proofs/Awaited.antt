@@ -6,6 +6,7 @@ use mathlib.Core.Path.{_≡_, refl, sym, ap, _∙_}
 use native.Mathlib.Nat.{add-zero, add-suc, suc-add}
 use native.Mathlib.Omega.{arith}
 use lib.ListN.{length, length-append}
+use Rattle.mask.specs.declared.Occupancy.{Occupancy}
 use Rattle.ids.specs.Free.{recordCount}
 use Rattle.trb.specs.declared.Words.{Words}
 use Rattle.dock.proofs.BooksLaws.{by-flies, part-flies}
@@ -24,7 +25,7 @@ use Rattle.promise.proofs.Kept.{positionOf, modelIn, Kept, Flights}
 
 -- ---- how many wait for an event
 
-pub in-flight : (K : ℕ) (records : List ℕ) (occupancy : ℕ) (first : ℕ → ℕ) (total heard : ℕ) → Flights K records occupancy first total heard
+pub in-flight : (K : ℕ) (records : List ℕ) (occupancy : Occupancy) (first : ℕ → ℕ) (total heard : ℕ) → Flights K records occupancy first total heard
     → total ≤ heard + flightSum records occupancy
 unfolding flightSum
 in-flight K records occupancy first total heard f =

@@ -8,8 +8,7 @@ use mathlib.Core.List.{List, [], _∷_, _++_}
 use mathlib.Core.Path.{_≡_, refl}
 use lib.ListN.{replicate}
 use Rattle.base.specs.Part.{put}
-use Rattle.mask.specs.Bit.{bit}
-use Rattle.mask.specs.Compute.{lowestClear, clearFrom, setBit, clearBit}
+use Rattle.mask.specs.Occupancy as masks
 use Rattle.ids.specs.Free.{freeId, freeFrom, heldBy, any}
 use Rattle.ids.specs.Lookup.{findFrom, findId}
 use Rattle.bursts.specs.Bursts.{burstsOf, packetsOf}
@@ -70,7 +69,7 @@ outset = fromMaking (madeOf (make (tables 20) (tables 20) (tables 768) (tables 4
 
 -- The world after the moves, and whether each of them may be made in its turn.
 ended : World × Bool
-unfolding outset allowed play admits takes isFor handed running.stepped does accepted cycle.cycleOf owned typeOf wordsOf wordsAt put putWords storeAt isSlot slotOf finishedAt fillPlace packetAt putPacket recordAt setWord bit lowestClear clearFrom setBit clearBit freeId freeFrom heldBy any findFrom findId cancel cancelNo cancelTests configure plainNo plainTests fits placesFit strays fitsWith nextOf slotFor foreign handOverTests handOverNo handOver limitsHold leave mismatched completeTests complete placeOf reclaimBulk reclaimControl closeBelow total sweep reclaimIso reclaimTests reclaimNo reclaimFlying reclaim startNo startTests crowded tooLong beyond charged recordTaken idTaken startedEndpoint startedRecords writePackets start store storeNo storeTests stepped slotStored ringStored finishedStored settled storedAnswer trbOf trbCount burstsOf packetsOf worth counts
+unfolding outset allowed play admits takes isFor handed running.stepped does accepted cycle.cycleOf owned typeOf wordsOf wordsAt put putWords storeAt isSlot slotOf finishedAt fillPlace packetAt putPacket recordAt setWord masks.held masks.lowest masks.taken masks.freed freeId freeFrom heldBy any findFrom findId cancel cancelNo cancelTests configure plainNo plainTests fits placesFit strays fitsWith nextOf slotFor foreign handOverTests handOverNo handOver limitsHold leave mismatched completeTests complete placeOf reclaimBulk reclaimControl closeBelow total sweep reclaimIso reclaimTests reclaimNo reclaimFlying reclaim startNo startTests crowded tooLong beyond charged recordTaken idTaken startedEndpoint startedRecords writePackets start store storeNo storeTests stepped slotStored ringStored finishedStored settled storedAnswer trbOf trbCount burstsOf packetsOf worth counts
 ended = (play outset moves, allowed outset moves)
 
 all-allowed : allowed outset moves ≡ true

@@ -16,7 +16,8 @@ use Rattle.ids.specs.Free.{recordWords, recordCount}
 use Rattle.ids.specs.Lookup.{findIn}
 use Rattle.ids.specs.declared.Lookup.{Lookup}
 use Rattle.ids.specs.declared.Lookup.the-variants as lookup
-use Rattle.mask.specs.Compute.{clearBit}
+use Rattle.mask.specs.Occupancy as masks
+use Rattle.mask.specs.declared.Occupancy.{Occupancy}
 use Rattle.records.specs.Records.{cancelledWord, recordedWord, recordAt, setWord}
 use Rattle.records.proofs.RecordLaws.{word-kept}
 use Rattle.dock.specs.declared.Account.{Account}
@@ -71,7 +72,7 @@ same-after (lookup.At r) records after q =
     (alike-set records r recordedWord (u .0) (omega arith) (λ e. omega arith) (λ e. omega arith) (λ e. omega arith) (λ e. omega arith))))
     q
 
-module _ (K : ℕ) (records : List ℕ) (occupancy : ℕ) (first : ℕ → ℕ) (total heard : ℕ) (f : Flights K records occupancy first total heard) where
+module _ (K : ℕ) (records : List ℕ) (occupancy : Occupancy) (first : ℕ → ℕ) (total heard : ℕ) (f : Flights K records occupancy first total heard) where
   pub flights-same : (after : List ℕ) → Same records after → Flights K after occupancy first total heard
   flights-same after s = record { each = each; all = all }
     where
@@ -106,16 +107,16 @@ module _ (K : ℕ) (records : List ℕ) (occupancy : ℕ) (first : ℕ → ℕ) 
 
   pub flights-freed : (a : Account) → a .occupancy ≡ occupancy → (r : ℕ) → r < recordCount
       → (flies records occupancy r ≡ true → first r + recordAt records r .count ≤ heard)
-      → Flights K records (clearBit occupancy r) first total heard
+      → Flights K records (masks.freed occupancy r) first total heard
   flights-freed a same r l passed = record { each = each; all = all }
     where
-      each : (q : ℕ) → q < recordCount → flies records (clearBit occupancy r) q ≡ true → Holds K total (first q) (recordAt records q)
+      each : (q : ℕ) → q < recordCount → flies records (masks.freed occupancy r) q ≡ true → Holds K total (first q) (recordAt records q)
       each q m fly =
-          let b = by-flies records (clearBit occupancy r) q .so fly in
-          let held = rw same at (still-held a records r l q (rw same (b .0))) in
-          f .each q m (if-so (by-flies records occupancy q) (held, b .1))
+          let b = by-flies records (masks.freed occupancy r) q .so fly in
+          let kept = rw same at (still-held a records r l q (rw same (b .0))) in
+          f .each q m (if-so (by-flies records occupancy q) (kept, b .1))
 
-      all : (j : ℕ) → heard ≤ j → j < total → Owner records (clearBit occupancy r) first j
+      all : (j : ℕ) → heard ≤ j → j < total → Owner records (masks.freed occupancy r) first j
       all j h m =
           let o = f .all j h m in
           let b = by-flies records occupancy (o .owner) .so (o .flying) in
@@ -128,7 +129,7 @@ module _ (K : ℕ) (records : List ℕ) (occupancy : ℕ) (first : ℕ → ℕ) 
           record {
             owner = o .owner;
             within = o .within;
-            flying = if-so (by-flies records (clearBit occupancy r) (o .owner)) ((rw same at (freed-other a records r l (o .owner) d)) ∙ b .0, b .1);
+            flying = if-so (by-flies records (masks.freed occupancy r) (o .owner)) ((rw same at (freed-other a records r l (o .owner) d)) ∙ b .0, b .1);
             from = o .from;
             to = o .to;
           })

@@ -17,8 +17,8 @@ use Rattle.base.proofs.Compare.{same-or-not, lt-or-le, compared}
 use Rattle.base.proofs.Decide.{if-so}
 use Rattle.ids.specs.Lookup.{findIn}
 use Rattle.ids.proofs.AnyLaws.{true-or-false}
-use Rattle.mask.specs.Bit.{bit}
-use Rattle.mask.specs.Compute.{clearBit}
+use Rattle.mask.specs.Occupancy.{held}
+use Rattle.mask.specs.Occupancy as masks
 use Rattle.trb.specs.declared.Words.{Words}
 use Rattle.finished.specs.Finished.{finishedAt}
 use Rattle.records.specs.Records.{recordAt}
@@ -274,7 +274,7 @@ module _ (w : World) (r : ℕ) where
       ⊎-elim
       (λ (p : startNo e records (length packets) request lengths ≡ 0).
       let free = record-free e records packets request lengths p in
-      let other : r ≡ recordTaken e → ⊥ = λ q. omega (arith, b .0, ap (bit (e .account .occupancy)) q) in
+      let other : r ≡ recordTaken e → ⊥ = λ q. false≢true (sym free ∙ sym (ap (held (e .account .occupancy)) q) ∙ b .0) in
       rw (start-acts e records packets request lengths p)
       (if-so (by-flies (startedRecords e records request lengths) (startedEndpoint e records request lengths .account .occupancy) r) (
         record-taken e records packets request lengths p .others r other ∙ b .0,
@@ -315,7 +315,7 @@ module _ (w : World) (r : ℕ) where
       absurd (false≢true
       (sym gone
       ∙ ap (λ (x : Endpoint). flies (t .1) (x .account .occupancy) r) (n .gone)
-      ∙ if-so (by-flies (t .1) (clearBit occupancy (u .number)) r)
+      ∙ if-so (by-flies (t .1) (masks.freed occupancy (u .number)) r)
       (freed-other (e .account) records (u .number) (u .lowest .within) r d ∙ b .0, alike .state r ∙ b .1))))
       (same-or-not r (u .number)))
       (u .touches .end))

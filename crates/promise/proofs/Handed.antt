@@ -13,6 +13,7 @@ use Rattle.base.proofs.Compare.{same-or-not}
 use Rattle.base.proofs.Decide.{by-leb, by-ltb, by-eqb, by-true, both}
 use Rattle.event.specs.Event.{eventOf}
 use Rattle.trb.specs.declared.Words.{Words}
+use Rattle.mask.specs.declared.Occupancy.{Occupancy}
 use Rattle.ids.proofs.AnyLaws.{true-or-false}
 use Rattle.ring.specs.Ring.{slotAddress, slotOf}
 use Rattle.ring.proofs.SlotLaws.{slot-found}
@@ -60,7 +61,7 @@ all-stored w k free =
 
 -- ---- more is heard: nothing else changes
 
-flights-heard : (K : ℕ) (records : List ℕ) (occupancy : ℕ) (first : ℕ → ℕ) (total heard more : ℕ) → heard ≤ more
+flights-heard : (K : ℕ) (records : List ℕ) (occupancy : Occupancy) (first : ℕ → ℕ) (total heard more : ℕ) → heard ≤ more
     → Flights K records occupancy first total heard → Flights K records occupancy first total more
 flights-heard K records occupancy first total heard more h f = record { each = f .each; all = λ j a l. f .all j (omega arith) l }
 

@@ -9,6 +9,7 @@ use mathlib.Core.Path.{_≡_}
 use lib.Dec.{eqb}
 use lib.ListN.{length}
 use Rattle.base.specs.First.{pick}
+use Rattle.mask.specs.declared.Occupancy.{Occupancy}
 use Rattle.ids.specs.Free.{recordCount}
 use Rattle.trb.specs.Cycle.{Pointer, typeOf}
 use Rattle.trb.specs.Layouts.{wordsOf, wordsAt}
@@ -167,14 +168,14 @@ pub record Holds (K total first : ℕ) (v : Record) : Type 0 where
   pub counts : Counts v
 
 -- A record in flight has number j.
-pub record Owner (records : List ℕ) (occupancy : ℕ) (first : ℕ → ℕ) (j : ℕ) : Type 0 where
+pub record Owner (records : List ℕ) (occupancy : Occupancy) (first : ℕ → ℕ) (j : ℕ) : Type 0 where
   pub owner : ℕ
   pub within : owner < recordCount
   pub flying : flies records occupancy owner ≡ true
   pub from : first owner ≤ j
   pub to : j < first owner + recordAt records owner .count
 
-pub record Flights (K : ℕ) (records : List ℕ) (occupancy : ℕ) (first : ℕ → ℕ) (total heard : ℕ) : Type 0 where
+pub record Flights (K : ℕ) (records : List ℕ) (occupancy : Occupancy) (first : ℕ → ℕ) (total heard : ℕ) : Type 0 where
   pub each : (r : ℕ) → r < recordCount → flies records occupancy r ≡ true → Holds K total (first r) (recordAt records r)
   -- every admitted TRB that no event has passed is that of a request in flight
   pub all : (j : ℕ) → heard ≤ j → j < total → Owner records occupancy first j

@@ -8,7 +8,8 @@ use native.Mathlib.Omega.{arith}
 use borrow.Author.Tests.{not-false}
 use lib.ListN.{length, replicate}
 use Rattle.base.proofs.Compare.{same-or-not}
-use Rattle.mask.proofs.BitLaws.{bit-none}
+use Rattle.mask.specs.Occupancy as masks
+use Rattle.mask.proofs.OccupancyLaws.{none-free}
 use Rattle.trb.specs.Cycle.{typeOf}
 use Rattle.trb.specs.Layouts.{wordsAt}
 use Rattle.trb.specs.declared.Words.{Words}
@@ -71,7 +72,7 @@ module _ (ring finished records packets : List ℕ) (slots base mask slot dci : 
         heard-consumed = omega arith;
         places = λ i event l e. absurd (never-event event (sym (empty (length finished) i) ∙ e));
         flights = record {
-          each = λ r l f. absurd (omega (arith, by-flies (zeros records) 0 r .so f .0, bit-none r));
+          each = λ r l f. absurd (false≢true (sym (none-free r) ∙ by-flies (zeros records) masks.none r .so f .0));
           all = λ j h l. absurd (omega arith);
         };
       }

@@ -16,8 +16,8 @@ use Rattle.ids.specs.Free.{recordCount, idAt}
 use Rattle.ids.specs.Lookup.{findIn}
 use Rattle.ids.specs.declared.Lookup.{Lookup}
 use Rattle.ids.proofs.AnyLaws.{by-held}
-use Rattle.mask.specs.Bit.{bit}
-use Rattle.mask.specs.Compute.{clearBit}
+use Rattle.mask.specs.Occupancy.{held}
+use Rattle.mask.specs.Occupancy as masks
 use Rattle.trb.specs.declared.Words.{Words}
 use Rattle.records.specs.Records.{inFlight, stopped, recordAt}
 use Rattle.records.specs.declared.Record.{Record}
@@ -105,7 +105,7 @@ module _ (w : World) (h : Sound (w .dock)) (k : Kept w) (id : ℕ) where
       let v = recordAt records r in
       let within = u .lowest .within in
       let free = reclaim-idle e (length (w .dock .finished)) records (length (w .dock .packets)) id (u .allowed) in
-      let has = by-held (bit (e .account .occupancy)) (idAt records) id r .so (u .lowest .here) in
+      let has = by-held (held (e .account .occupancy)) (idAt records) id r .so (u .lowest .here) in
       let found = held-found (w .dock) h id r within (has .0, has .1) in
       let flying : v .state ≡ inFlight = by-flies records (e .account .occupancy) r .so fly .1 in
       let going : eqb (v .state) inFlight ≡ true = eq-eqb _ _ flying in
@@ -139,7 +139,7 @@ module _ (w : World) (h : Sound (w .dock)) (k : Kept w) (id : ℕ) where
       let total = length (w .trbs) in
       let s = modelIn K w (k .before) (k .work) in
       let flights = flights-freed K old occupancy (w .first) total (w .heard) (k .flights) (e .account) refl r within passed in
-      let sum = in-flight K old (clearBit occupancy r) (w .first) total (w .heard) flights in
+      let sum = in-flight K old (masks.freed occupancy r) (w .first) total (w .heard) flights in
       let may : model.MayFree s part =
       record {
         covers = omega (
@@ -167,7 +167,7 @@ module _ (w : World) (h : Sound (w .dock)) (k : Kept w) (id : ℕ) where
         split = k .split;
         heard-consumed = k .heard-consumed;
         places = k .places;
-        flights = flights-same K old (clearBit occupancy r) (w .first) total (w .heard) flights records same;
+        flights = flights-same K old (masks.freed occupancy r) (w .first) total (w .heard) flights records same;
       }
 
   pub reclaimed-kept : Kept (act w (calls (reclaims id)))

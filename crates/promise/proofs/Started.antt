@@ -1,7 +1,7 @@
 -- The start of a submission keeps the invariant: an admitted one is the model's begin of a TD with the request's TRBs, deferred for a control request, and
 -- its record has them. Assumes nothing.
 use Prim.Native.Nat.{ℕ, suc, _+_, _-_, _<_, _≤_}
-use mathlib.Core.Bool.{Bool, true, false}
+use mathlib.Core.Bool.{Bool, true, false, false≢true}
 use mathlib.Core.List.{List, [], _∷_, _++_}
 use mathlib.Core.Logic.{⊎-elim}
 use mathlib.Core.Option.{none}
@@ -14,7 +14,8 @@ use Rattle.base.proofs.Compare.{same-or-not, lt-or-le}
 use Rattle.base.proofs.Decide.{if-so}
 use Rattle.ids.specs.Free.{recordCount}
 use Rattle.ids.proofs.AnyLaws.{true-or-false}
-use Rattle.mask.specs.Bit.{bit}
+use Rattle.mask.specs.Occupancy.{held}
+use Rattle.mask.specs.declared.Occupancy.{Occupancy}
 use Rattle.trb.specs.declared.Trb.{Trb}
 use Rattle.trb.specs.declared.Words.{Words}
 use Rattle.records.specs.Records.{control, inFlight, recordAt}
@@ -85,8 +86,8 @@ record-counts (asks.Isoch incoming address size) lengths id place = record {
 
 -- ---- the records in flight, with one more
 
-module _ (K : ℕ) (records after : List ℕ) (occupancy mask : ℕ) (first : ℕ → ℕ) (total heard r : ℕ) (v : Record)
-    (within : r < recordCount) (clear : bit occupancy r ≡ 0) (set : bit mask r ≡ 1) (others : (q : ℕ) → (q ≡ r → ⊥) → bit mask q ≡ bit occupancy q)
+module _ (K : ℕ) (records after : List ℕ) (occupancy taken : Occupancy) (first : ℕ → ℕ) (total heard r : ℕ) (v : Record)
+    (within : r < recordCount) (free : held occupancy r ≡ false) (holds : held taken r ≡ true) (others : (q : ℕ) → (q ≡ r → ⊥) → held taken q ≡ held occupancy q)
     (written : recordAt after r ≡ v) (kept : (q : ℕ) → (q ≡ r → ⊥) → recordAt after q ≡ recordAt records q)
     (flying : v .state ≡ inFlight) (at : (pos K total) .place ≡ v .place) (counts : Counts v)
     (f : Flights K records occupancy first total heard) where
@@ -99,20 +100,20 @@ module _ (K : ℕ) (records after : List ℕ) (occupancy mask : ℕ) (first : �
   other-first : (q : ℕ) → (q ≡ r → ⊥) → firsts q ≡ first q
   other-first q d = rw (ne-eqb q r d)
 
-  was-flying : (q : ℕ) → (q ≡ r → ⊥) → flies after mask q ≡ true → flies records occupancy q ≡ true
+  was-flying : (q : ℕ) → (q ≡ r → ⊥) → flies after taken q ≡ true → flies records occupancy q ≡ true
   was-flying q d fly =
-      let b = by-flies after mask q .so fly in
+      let b = by-flies after taken q .so fly in
       if-so (by-flies records occupancy q) (sym (others q d) ∙ b .0, sym (ap (λ (x : Record). x .state) (kept q d)) ∙ b .1)
 
-  still-flying : (q : ℕ) → (q ≡ r → ⊥) → flies records occupancy q ≡ true → flies after mask q ≡ true
+  still-flying : (q : ℕ) → (q ≡ r → ⊥) → flies records occupancy q ≡ true → flies after taken q ≡ true
   still-flying q d fly =
       let b = by-flies records occupancy q .so fly in
-      if-so (by-flies after mask q) (others q d ∙ b .0, ap (λ (x : Record). x .state) (kept q d) ∙ b .1)
+      if-so (by-flies after taken q) (others q d ∙ b .0, ap (λ (x : Record). x .state) (kept q d) ∙ b .1)
 
   holds-more : (n m k : ℕ) (x : Record) → n ≤ m → Holds K n k x → Holds K m k x
   holds-more n m k x l h = record { begins = h .begins; ends = omega (arith, h .ends); counts = h .counts }
 
-  each-taken : (q : ℕ) → q < recordCount → flies after mask q ≡ true → Holds K (total + v .count) (firsts q) (recordAt after q)
+  each-taken : (q : ℕ) → q < recordCount → flies after taken q ≡ true → Holds K (total + v .count) (firsts q) (recordAt after q)
   each-taken q l fly =
       ⊎-elim
       (λ (e : q ≡ r).
@@ -122,12 +123,12 @@ module _ (K : ℕ) (records after : List ℕ) (occupancy mask : ℕ) (first : �
       (holds-more total (total + v .count) (first q) (recordAt records q) (omega arith) (f .each q l (was-flying q d fly))))
       (same-or-not q r)
 
-  all-taken : (j : ℕ) → heard ≤ j → j < total + v .count → Owner after mask firsts j
+  all-taken : (j : ℕ) → heard ≤ j → j < total + v .count → Owner after taken firsts j
   all-taken j h l =
       ⊎-elim
       (λ (old : j < total).
       let o = f .all j h old in
-      let d : o .owner ≡ r → ⊥ = λ e. omega (arith, by-flies records occupancy (o .owner) .so (o .flying) .0, ap (bit occupancy) e) in
+      let d : o .owner ≡ r → ⊥ = λ e. false≢true (sym free ∙ sym (ap (held occupancy) e) ∙ by-flies records occupancy (o .owner) .so (o .flying) .0) in
       record {
         owner = o .owner;
         within = o .within;
@@ -139,13 +140,13 @@ module _ (K : ℕ) (records after : List ℕ) (occupancy mask : ℕ) (first : �
       record {
         owner = r;
         within = within;
-        flying = if-so (by-flies after mask r) (set, ap (λ (x : Record). x .state) written ∙ flying);
+        flying = if-so (by-flies after taken r) (holds, ap (λ (x : Record). x .state) written ∙ flying);
         from = omega (arith, here-first);
         to = omega (arith, here-first, ap (λ (x : Record). x .count) written);
       })
       (lt-or-le j total)
 
-  pub flights-taken : Flights K after mask firsts (total + v .count) heard
+  pub flights-taken : Flights K after taken firsts (total + v .count) heard
   flights-taken = record { each = each-taken; all = all-taken }
 
 -- ---- the TD of a request
@@ -276,7 +277,7 @@ module _ (w : World) (request : Request) (lengths : List ℕ) (h : Sound (w .doc
       ap trbCount written ∙ count-is request lengths id (e .at .place) (s .short) in
       let last : withFirst (w .first) r total r + trbCount (recordAt records r) ≡ length (w .trbs ++ trbs) =
       omega (arith, length-append (w .trbs) trbs) in
-      let taken-bits = record-taken e old (w .dock .packets) request lengths passed in
+      let is-taken = record-taken e old (w .dock .packets) request lengths passed in
       let longer : length (w .trbs ++ trbs) ≡ total + required request lengths = omega (arith, length-append (w .trbs) trbs) in
       record {
         K = K;
@@ -300,7 +301,7 @@ module _ (w : World) (request : Request) (lengths : List ℕ) (h : Sound (w .doc
             (flights-taken K old records (e .account .occupancy) (begunWith .account .occupancy) (w .first) total
             (w .heard) r (recordFor request lengths id (e .at .place))
             (record-below e old (w .dock .packets) request lengths passed) (record-free e old (w .dock .packets) request lengths passed)
-            (taken-bits .here) (taken-bits .others)
+            (is-taken .here) (is-taken .others)
             written (records-kept e old (w .dock .packets) request lengths passed) refl producer-at
             (record-counts request lengths id (e .at .place)) (k .flights));
       }

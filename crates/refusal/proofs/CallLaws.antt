@@ -10,7 +10,8 @@ use lib.Dec.{eqb, leb, ltb}
 use lib.ListN.{length}
 use Rattle.base.specs.First.{pick}
 use Rattle.base.proofs.Chosen.{quiet}
-use Rattle.mask.specs.Bit.{bit}
+use Rattle.mask.specs.Occupancy.{held}
+use Rattle.mask.specs.declared.Occupancy.{Occupancy}
 use Rattle.ids.specs.Free.{recordCount, recordWords, idAt, heldBy}
 use Rattle.ids.specs.Lookup.{findIn, Finds}
 use Rattle.ids.specs.declared.Lookup.the-variants.{At}
@@ -34,9 +35,9 @@ use Rattle.checks.specs.Shown.{Shown}
 use Rattle.refusal.specs.Misplaced.{misplaced}
 
 -- A record that is found is one of the table's.
-pub found-within : (records : List ℕ) (mask id r : ℕ) → At r ≡ findIn records mask id → r < recordCount
-found-within records mask id r e =
-    subst (Finds recordCount (heldBy (bit mask) (idAt records) id)) (sym e) (find-finds recordCount (bit mask) (idAt records) id) .within
+pub found-within : (records : List ℕ) (occupancy : Occupancy) (id r : ℕ) → At r ≡ findIn records occupancy id → r < recordCount
+found-within records occupancy id r e =
+    subst (Finds recordCount (heldBy (held occupancy) (idAt records) id)) (sym e) (find-finds recordCount (held occupancy) (idAt records) id) .within
 
 or-false : (a b : Bool) → (a || b) ≡ false → (a ≡ false) × (b ≡ false)
 or-false true b e = absurd (true≢false e)

@@ -16,6 +16,7 @@ use checks::ISOCH;
 use checks::PACKETS_SIZE;
 use dock::Endpoint;
 use ids::Lookup;
+use mask::Occupancy;
 use packets::PACKETS;
 use records::IN_FLIGHT;
 use records::Record;
@@ -85,7 +86,7 @@ pub fn hand_over_no(e: Endpoint, finished: usize, w: Words) -> u32
 // ---- a cancel
 
 // The id is that of no record in flight.
-fn is_grounded(records: &[u64], occupancy: u64, id: u64) -> bool
+fn is_grounded(records: &[u64], occupancy: Occupancy, id: u64) -> bool
     requires { ⌜ length (now records) ≡ recordCount * recordWords ⌝ }
     ensures { λ r. ⌜ r ≡ notFlying (now (records .entry)) (findIn (now (records .entry)) occupancy id) ⌝ }
 {

@@ -3,9 +3,10 @@ use Prim.Native.Nat.{ℕ}
 use mathlib.Core.Bool.{Bool, not, _||_}
 use mathlib.Core.List.{List}
 use lib.Dec.{eqb}
+use Rattle.mask.specs.declared.Occupancy.{Occupancy}
 use Rattle.ids.specs.Free.{recordCount, any}
 use Rattle.dock.specs.Fit.{flies}
 
 -- Requests in flight, or TRBs outstanding, from the numbers of the account.
-unfoldable pub occupiedBy : List ℕ → ℕ → ℕ → Bool
+unfoldable pub occupiedBy : List ℕ → Occupancy → ℕ → Bool
 occupiedBy records occupancy outstanding = any recordCount (flies records occupancy) || not (eqb outstanding 0)

@@ -14,9 +14,10 @@ use dock::Outcome;
 use dock::ResetBegun;
 use dock::Resetting;
 use ids::RECORD_COUNT;
+use mask::Occupancy;
 
 // Is some request in flight?
-fn some_flying(records: &[u64], occupancy: u64) -> bool
+fn some_flying(records: &[u64], occupancy: Occupancy) -> bool
     requires { ⌜ length (now records) ≡ recordCount * recordWords ⌝ }
     ensures { λ b. ⌜ b ≡ any recordCount (flies (now (records .entry)) occupancy) ⌝ }
 {
@@ -31,7 +32,7 @@ fn some_flying(records: &[u64], occupancy: u64) -> bool
 }
 
 // Are there requests in flight, or TRBs outstanding?
-fn is_occupied(records: &[u64], occupancy: u64, outstanding: u64) -> bool
+fn is_occupied(records: &[u64], occupancy: Occupancy, outstanding: u64) -> bool
     requires { ⌜ length (now records) ≡ recordCount * recordWords ⌝ }
     ensures { λ b. ⌜ b ≡ occupiedBy (now (records .entry)) occupancy outstanding ⌝ }
 {

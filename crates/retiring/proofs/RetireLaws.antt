@@ -4,12 +4,13 @@ use mathlib.Core.List.{List}
 use mathlib.Core.Path.{_≡_, refl, ap}
 use native.Mathlib.Numerals.{add-one}
 use Rattle.base.specs.First.{pick}
+use Rattle.mask.specs.declared.Occupancy.{Occupancy}
 use Rattle.records.specs.Records.{stateWord, stopped, recordAt, setWord}
 use Rattle.dock.specs.Fit.{flies}
 use Rattle.dock.specs.Retire.{retiredBelow}
 use Rattle.retiring.specs.Steps.{retireOne}
 
-module _ (occupancy outstanding : ℕ) (records : List ℕ) where
+module _ (occupancy : Occupancy) (outstanding : ℕ) (records : List ℕ) where
   pub retired-none : _≡_ {A = ℕ × List ℕ} (outstanding, records) (retiredBelow 0 occupancy outstanding records)
   unfolding retiredBelow
   retired-none = refl

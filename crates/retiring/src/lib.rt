@@ -11,16 +11,17 @@ use dock::Changed;
 use dock::Endpoint;
 use dock::Outcome;
 use ids::RECORD_COUNT;
+use mask::Occupancy;
 use records::IN_FLIGHT;
 use records::STATE;
 use records::STOPPED;
 
 // Is the record held, and its request in flight?
-pub fn is_flying(records: &[u64], occupancy: u64, r: usize) -> bool
+pub fn is_flying(records: &[u64], occupancy: Occupancy, r: usize) -> bool
     requires { ⌜ (length (now records) ≡ recordCount * recordWords) × (r < recordCount) ⌝ }
     ensures { λ b. ⌜ b ≡ flies (now (records .entry)) occupancy r ⌝ }
 {
-    if !mask::has_bit(occupancy, r) {
+    if !mask::is_held(occupancy, r) {
         return false;
     }
     let v = records::record_at(records, r);
@@ -38,7 +39,7 @@ fn less(a: u64, b: u64) -> u64
 }
 
 // One record: a request in flight becomes stopped, and its TRBs leave outstanding.
-fn retire_one(records: &mut [u64], occupancy: u64, outstanding: u64, r: usize) -> u64
+fn retire_one(records: &mut [u64], occupancy: Occupancy, outstanding: u64, r: usize) -> u64
     requires { ⌜ (length (now records) ≡ recordCount * recordWords) × (r < recordCount) ⌝ }
     ensures { λ out. ⌜ (out, now (records .exit)) ≡ retireOne occupancy outstanding (now (records .entry)) r ⌝ }
 {
@@ -51,7 +52,7 @@ fn retire_one(records: &mut [u64], occupancy: u64, outstanding: u64, r: usize) -
 }
 
 // Every record, one after the other.
-fn retire_all(records: &mut [u64], occupancy: u64, outstanding: u64) -> u64
+fn retire_all(records: &mut [u64], occupancy: Occupancy, outstanding: u64) -> u64
     requires { ⌜ length (now records) ≡ recordCount * recordWords ⌝ }
     ensures { λ out. ⌜ (out, now (records .exit)) ≡ retiredBelow recordCount occupancy outstanding (now (records .entry)) ⌝ }
 {
@@ -76,10 +77,11 @@ pub fn retire_all_after_stop(e: Endpoint, records: &mut [u64]) -> Changed
         };
     }
     let a = e.account;
-    let outstanding = retire_all(records, a.occupancy, a.outstanding);
+    let occupancy = a.occupancy;
+    let outstanding = retire_all(records, occupancy, a.outstanding);
     let account = Account {
         next: a.next,
-        occupancy: a.occupancy,
+        occupancy,
         outstanding,
     };
     let mut next = e;

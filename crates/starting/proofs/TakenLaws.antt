@@ -3,7 +3,7 @@ use Prim.Native.Nat.{ℕ, _-_}
 use mathlib.Core.List.{List}
 use mathlib.Core.Path.{_≡_, refl, ap, _∙_}
 use lib.ListN.{length}
-use Rattle.mask.specs.Compute.{lowestClear}
+use Rattle.mask.specs.Occupancy.{lowest}
 use Rattle.dock.specs.Requests.{recordFor}
 use Rattle.dock.specs.Start.{numberFrom, recordTaken, idTaken, charged, writePackets, startedEndpoint, startedRecords}
 use Rattle.dock.specs.declared.Endpoint.{Endpoint}
@@ -31,7 +31,7 @@ left b packets = (b .0 .endpoint, b .1, packets)
 
 -- and all that it leaves.
 pub begun-by : (e : Endpoint) (records packets : List ℕ) (request : Request) (lengths : List ℕ) {b : Begun} {number : ℕ} {records₁ packets₁ : List ℕ}
-    → _≡_ {A = Begun × List ℕ} (b, records₁) (takenWith e records request (length lengths)) → number ≡ numberFrom (lowestClear (e .account .occupancy))
+    → _≡_ {A = Begun × List ℕ} (b, records₁) (takenWith e records request (length lengths)) → number ≡ numberFrom (lowest (e .account .occupancy))
     → packets₁ ≡ writePackets packets number request lengths
     → _≡_ {A = Endpoint × List ℕ × List ℕ} (b .endpoint, records₁, packets₁) (begunWith e records packets request lengths)
 unfolding begunWith recordTaken

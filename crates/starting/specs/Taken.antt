@@ -2,7 +2,7 @@
 use Prim.Native.Nat.{ℕ, _+_}
 use mathlib.Core.List.{List}
 use Rattle.base.specs.Part.{put}
-use Rattle.mask.specs.Compute.{lowestClear, setBit}
+use Rattle.mask.specs.Occupancy as masks
 use Rattle.ids.specs.Free.{recordWords, freeIn}
 use Rattle.ids.specs.Order.{afterId}
 use Rattle.records.specs.Records.{recordList}
@@ -19,7 +19,7 @@ startedBy e next number request count =
     withWork e
     (record {
       next = next;
-      occupancy = setBit (e .account .occupancy) number;
+      occupancy = masks.taken (e .account .occupancy) number;
       outstanding = e .account .outstanding + requiredBy request count;
     })
     (begun e number request)
@@ -28,7 +28,7 @@ startedBy e next number request count =
 unfoldable pub takenWith : Endpoint → List ℕ → Request → ℕ → Begun × List ℕ
 takenWith e records request count =
     let id = freeIn records (e .account .occupancy) (e .account .next) in
-    let number = numberFrom (lowestClear (e .account .occupancy)) in
+    let number = numberFrom (masks.lowest (e .account .occupancy)) in
     let v = recordBy request count id (e .at .place) in
     (record { endpoint = startedBy e (afterId id) number request count; kept = v }, put recordWords records number (recordList v))
 

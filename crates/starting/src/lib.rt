@@ -5,7 +5,8 @@ ghost use mathlib.Core.Path.{_≡_};
 ghost use Prim.Native.Nat.{_+_, _*_, _^_, _≤_, _<_};
 ghost use lib.ListN.{length};
 ghost use lib.Seq.{paste};
-ghost use Rattle.mask.specs.Compute.{lowestClear};
+ghost use Rattle.sizes.specs.Sizes.{recordCount};
+ghost use Rattle.mask.specs.Occupancy.{lowest};
 ghost use Rattle.packets.specs.Packets.{packetCount};
 ghost use Rattle.dock.specs.Start.{numberFrom, atLeastOne, writePackets};
 ghost use Rattle.requests.specs.Counts.{givenBy, requiredBy};
@@ -17,13 +18,14 @@ use dock::Endpoint;
 use dock::Request;
 use dock::Work;
 use mask::Found;
+use mask::Occupancy;
 use records::Record;
 
 // "The lowest clear bit is taken."
-fn record_taken(occupancy: u64) -> usize
-    ensures { λ r. ⌜ (r ≡ numberFrom (lowestClear occupancy)) × (r < 64) ⌝ }
+fn record_taken(occupancy: Occupancy) -> usize
+    ensures { λ r. ⌜ (r ≡ numberFrom (lowest occupancy)) × (r < recordCount) ⌝ }
 {
-    let found = mask::lowest_clear(occupancy);
+    let found = mask::lowest(occupancy);
     match found {
         Found::At(i) => i,
         Found::Full => 0,
@@ -89,12 +91,12 @@ fn write_packets(packets: &mut [u64], number: usize, request: Request, lengths: 
 
 // The endpoint with the id, the record and the count taken, and the submission under way.
 fn started(e: Endpoint, next: u64, number: usize, request: Request, count: usize) -> Endpoint
-    requires { ⌜ (number < 64) × (e .account .outstanding + requiredBy request count < 2 ^ 64) ⌝ }
+    requires { ⌜ (number < recordCount) × (e .account .outstanding + requiredBy request count < 2 ^ 64) ⌝ }
     ensures { λ r. ⌜ r ≡ startedBy e next number request count ⌝ }
 {
     let account = Account {
         next,
-        occupancy: mask::with_bit(e.account.occupancy, number),
+        occupancy: mask::taken(e.account.occupancy, number),
         outstanding: e.account.outstanding + requests::required_of(request, count),
     };
     let work = Work {

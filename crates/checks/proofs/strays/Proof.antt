@@ -16,15 +16,15 @@ returns-2 c = simp (not-false (c .before .before .before .before .args .e .work 
 
 returns-3 : tie.Need-returns-3
 unfolding strays
-returns-3 c = simp (not-false (c .before .before .before .before .before .before .args .e .work .busy) (c .before .before .before .if1 .left), lt-ltb _ _ (c .before .before .if2 .left), failed (c .before .has-bit .ensures) (c .if3 .taken))
+returns-3 c = simp (not-false (c .before .before .before .before .before .before .args .e .work .busy) (c .before .before .before .if1 .left), lt-ltb _ _ (c .before .before .if2 .left), failed (c .before .is-held .ensures) (c .if3 .taken))
 
 returns-4 : tie.Need-returns-4
 unfolding strays
-returns-4 c = simp (not-false (c .before .before .before .before .before .before .before .before .before .args .e .work .busy) (c .before .before .before .before .before .before .if1 .left), lt-ltb _ _ (c .before .before .before .before .before .if2 .left), passed (c .before .before .before .before .has-bit .ensures) (c .before .before .before .if3 .left), ← c .before .before .record-at .ensures, ne-eqb _ _ (c .if4 .taken))
+returns-4 c = simp (not-false (c .before .before .before .before .before .before .before .before .before .args .e .work .busy) (c .before .before .before .before .before .before .if1 .left), lt-ltb _ _ (c .before .before .before .before .before .if2 .left), passed (c .before .before .before .before .is-held .ensures) (c .before .before .before .if3 .left), ← c .before .before .record-at .ensures, ne-eqb _ _ (c .if4 .taken))
 
 returns-5 : tie.Need-returns-5
 unfolding strays
-returns-5 c = simp (not-false (c .before .before .before .before .before .before .before .before .before .before .args .e .work .busy) (c .before .before .before .before .before .before .before .if1 .left), lt-ltb _ _ (c .before .before .before .before .before .before .if2 .left), passed (c .before .before .before .before .before .has-bit .ensures) (c .before .before .before .before .if3 .left), ← c .before .before .before .record-at .ensures, eq-eqb _ _ (c .before .if4 .left), c .is-past .ensures)
+returns-5 c = simp (not-false (c .before .before .before .before .before .before .before .before .before .before .args .e .work .busy) (c .before .before .before .before .before .before .before .if1 .left), lt-ltb _ _ (c .before .before .before .before .before .before .if2 .left), passed (c .before .before .before .before .before .is-held .ensures) (c .before .before .before .before .if3 .left), ← c .before .before .before .record-at .ensures, eq-eqb _ _ (c .before .if4 .left), c .is-past .ensures)
 
 pub strays-spec : {M : Type 1} → statement M
 strays-spec =

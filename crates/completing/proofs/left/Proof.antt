@@ -6,7 +6,7 @@ use Rattle.completing.proofs.left.Tie as tie
 
 returns : tie.Need-returns
 unfolding leave
-returns c = simp (c .either .ensures, c .before .less .ensures, c .before .before .without-bit .ensures)
+returns c = simp (c .either .ensures, c .before .less .ensures, c .before .before .freed .ensures)
 
 pub left-spec : {M : Type 1} → statement M
 left-spec = tie.close (tie.spec (λ c κs. search needs) (λ c κs. search needs) (λ c κs. search needs) returns)

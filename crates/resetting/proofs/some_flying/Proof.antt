@@ -6,16 +6,17 @@ use native.Mathlib.Omega.{arith}
 use borrow.Author.Count.{below-more}
 use borrow.Author.Needs.{needs}
 use denote.Ref.{now}
+use Rattle.ids.specs.Free.{recordCount}
 use Rattle.ids.proofs.AnyLaws.{any-none, any-one}
 use Rattle.dock.specs.Fit.{flies}
 use Rattle.resetting.proofs.some_flying.Statement.{statement}
 use Rattle.resetting.proofs.some_flying.Tie as tie
 
 abbrev Inv-loop : tie.InvT-loop
-Inv-loop records occupancy r₀ r = (r ≤ 64) × ((k : ℕ) → k < r → flies records occupancy k ≡ false)
+Inv-loop records occupancy r₀ r = (r ≤ recordCount) × ((k : ℕ) → k < r → flies records occupancy k ≡ false)
 
 abbrev μ-loop : tie.MeasureT-loop
-μ-loop records occupancy r₀ r = 64 - r
+μ-loop records occupancy r₀ r = recordCount - r
 
 loop-holds : tie.Need-loop-holds Inv-loop μ-loop
 loop-holds c = (omega arith, λ k l. absurd (omega arith))
@@ -24,7 +25,7 @@ returns : tie.Need-returns Inv-loop μ-loop
 returns c =
     let a = c .before .before .before .before .before .args in
     let r = c .before .before .before .loop .r in
-    sym (any-one 64 r (flies (now (a .records)) (a .occupancy)) (omega arith) (sym (c .before .is-flying .ensures) ∙ c .if1 .taken))
+    sym (any-one recordCount r (flies (now (a .records)) (a .occupancy)) (omega arith) (sym (c .before .is-flying .ensures) ∙ c .if1 .taken))
 
 loop-again : tie.Need-loop-again Inv-loop μ-loop
 loop-again c =
@@ -35,7 +36,7 @@ loop-again c =
 returns-2 : tie.Need-returns-2 Inv-loop μ-loop
 returns-2 c =
     let a = c .before .before .before .args in
-    sym (any-none 64 (flies (now (a .records)) (a .occupancy)) (λ k l. c .before .loop .inv .1 k (omega arith)))
+    sym (any-none recordCount (flies (now (a .records)) (a .occupancy)) (λ k l. c .before .loop .inv .1 k (omega arith)))
 
 pub some-flying-spec : {M : Type 1} → statement M
 some-flying-spec =

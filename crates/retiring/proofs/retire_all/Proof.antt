@@ -6,6 +6,7 @@ use native.Mathlib.Omega.{arith}
 use borrow.Author.Needs.{needs}
 use denote.Ref.{now}
 use lib.ListN.{length}
+use Rattle.ids.specs.Free.{recordCount}
 use Rattle.dock.specs.Retire.{retiredBelow}
 use Rattle.retiring.proofs.RetireLaws.{retired-none, retired-more}
 use Rattle.retiring.proofs.retire_all.Statement.{statement}
@@ -13,12 +14,12 @@ use Rattle.retiring.proofs.retire_all.Tie as tie
 
 abbrev Inv-loop : tie.InvT-loop
 Inv-loop records₀ occupancy outstanding out₀ r₀ records out r =
-    (r ≤ 64)
+    (r ≤ recordCount)
     × (length records ≡ length records₀)
     × (_≡_ {A = ℕ × List ℕ} (out, records) (retiredBelow r occupancy outstanding records₀))
 
 abbrev μ-loop : tie.MeasureT-loop
-μ-loop records₀ occupancy outstanding out₀ r₀ records out r = 64 - r
+μ-loop records₀ occupancy outstanding out₀ r₀ records out r = recordCount - r
 
 loop-holds : tie.Need-loop-holds Inv-loop μ-loop
 loop-holds c = let a = c .before .args in (omega arith, refl, retired-none (a .occupancy) (a .outstanding) (now (a .records)))
@@ -38,7 +39,7 @@ loop-again c =
 
 returns : tie.Need-returns Inv-loop μ-loop
 returns c =
-    let all : c .before .loop .r ≡ 64 = omega arith in
+    let all : c .before .loop .r ≡ recordCount = omega arith in
     rw all at (c .before .loop .inv .2)
 
 pub retire-all-spec : {M : Type 1} → statement M

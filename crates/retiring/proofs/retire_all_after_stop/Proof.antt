@@ -17,15 +17,15 @@ returns c =
 
 retire-all-requires : tie.Need-retire-all-requires
 retire-all-requires c κs =
-    let a = c .before .before .before .before .before .before .args in
-    let tested = c .before .before in
+    let a = c .before .before .before .before .before .before .before .args in
+    let tested = c .before .before .before in
     record-size (a .e) (now (a .records)) (sym (tested .before .record-no .ensures) ∙ tested .if1 .left)
 
 returns-2 : tie.Need-returns-2
 unfolding retire
 returns-2 c =
-    let a = c .before .before .before .before .before .before .before .before .before .args in
-    let tested = c .before .before .before .before .before in
+    let a = c .before .before .before .before .before .before .before .before .before .before .args in
+    let tested = c .before .before .before .before .before .before in
     let all = c .before .before .retire-all .ensures in
     simp (eq-eqb (recordNo (a .e) (now (a .records))) 0 (sym (tested .before .record-no .ensures) ∙ tested .if1 .left), sym all)
 

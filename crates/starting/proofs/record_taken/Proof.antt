@@ -8,10 +8,10 @@ use Rattle.starting.proofs.record_taken.Statement.{statement}
 use Rattle.starting.proofs.record_taken.Tie as tie
 
 returns : tie.Need-returns
-returns c = let e = sym (c .before .found .given .1) ∙ c .before .before .before .lowest-clear .ensures in (ap numberFrom e, found-within (c .before .before .before .before .args .occupancy) e)
+returns c = let e = sym (c .before .found .given .1) ∙ c .before .before .before .lowest .ensures in (ap numberFrom e, found-within (c .before .before .before .before .args .occupancy) e)
 
 returns-2 : tie.Need-returns-2
-returns-2 c = let e = sym (c .enum-told .given .1) ∙ c .before .before .lowest-clear .ensures in (ap numberFrom e, omega arith)
+returns-2 c = let e = sym (c .enum-told .given .1) ∙ c .before .before .lowest .ensures in (ap numberFrom e, omega arith)
 
 pub record-taken-spec : {M : Type 1} → statement M
 record-taken-spec =

@@ -6,7 +6,7 @@ use Rattle.starting.proofs.started.Tie as tie
 
 returns : tie.Need-returns
 unfolding startedBy
-returns c = simp (c .buffer-of .ensures, c .before .before .required-of .ensures, c .before .before .before .with-bit .ensures)
+returns c = simp (c .buffer-of .ensures, c .before .before .required-of .ensures, c .before .before .before .taken .ensures)
 
 pub started-spec : {M : Type 1} → statement M
 started-spec =

@@ -4,7 +4,7 @@ use Rattle.making.proofs.make.blank.Statement.{statement}
 use Rattle.making.proofs.make.blank.Tie as tie
 
 returns : tie.Need-returns
-returns c = simp (c .idle .ensures)
+returns c = simp (c .idle .ensures, c .before .none .ensures)
 
 pub blank-spec : {M : Type 1} → statement M
-blank-spec = tie.close (tie.spec (λ c κs. search needs) returns)
+blank-spec = tie.close (tie.spec (λ c κs. search needs) (λ c κs. search needs) returns)
