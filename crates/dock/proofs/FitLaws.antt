@@ -40,13 +40,14 @@ use Rattle.dock.specs.declared.ResetBegun.{ResetBegun}
 use Rattle.dock.specs.declared.Shape.{Shape}
 use Rattle.dock.specs.declared.StoredOne.{StoredOne}
 use Rattle.dock.specs.declared.Request.{Request}
-use Rattle.dock.specs.declared.Request.the-variants.{Control, Bulk, Interrupt, Isoch}
+use Rattle.dock.specs.declared.What.{What}
+use Rattle.dock.specs.declared.What.the-variants.{Control, Bulk, Interrupt, Isoch}
 use Rattle.dock.specs.Limits.{limitsHold}
 use Rattle.dock.specs.Fit.{placesFit, fits, flies, strays, fitsWith, Next, theLink, theTrb, theSetup, none, nextOf, isNone}
 use Rattle.dock.specs.State.{fresh, idle, moved}
 use Rattle.dock.specs.Make.{makeNo, make, zeros}
 use Rattle.dock.specs.Configure.{plainTests, plainNo, configure}
-use Rattle.dock.specs.Requests.{recordFor, required}
+use Rattle.dock.specs.Requests.{countFor, recordFor, required}
 use Rattle.dock.specs.Start.{crowded, tooLong, someOver, sumOf, startTests, startNo, recordTaken, idTaken, charged, writePackets, startedEndpoint, startedRecords, start}
 use Rattle.dock.specs.Stores.{trbCount}
 use Rattle.dock.specs.Store.{storeTests, storeNo, stepped, settled}
@@ -333,21 +334,24 @@ hand-placed : (s : State) (event : Words) → Placed s → Placed (afterHandOver
 hand-placed s event k = record { placing = k .placing; straight = k .straight; capacity = k .capacity; bounds = k .bounds }
 
 -- The start of a submission: its record has a TRB to store, and at most 64.
-count-some : (request : Request) (lengths : List ℕ) (id place : ℕ) → 0 < trbCount (recordFor request lengths id place)
+count-some : (request : Request) (count id place : ℕ) → 0 < trbCount (recordFor request count id place)
 unfolding trbCount
-count-some (Control kind request value index address size) lengths id place =
-    picked (λ (n : ℕ). 0 < n) (eqb size 0) 2 3 (λ t. omega arith) (λ t. omega arith)
-count-some (Bulk incoming address size) lengths id place = omega arith
-count-some (Interrupt incoming address size) lengths id place = omega arith
-count-some (Isoch incoming address size) lengths id place = omega arith
+count-some request count id place = some (request .what) (request .address) (request .length)
+  where
+    some : (what : What) (address size : ℕ) → 0 < trbCount (recordFor (record { what = what; address = address; length = size }) count id place)
+    some (Control type request value index) address size =
+        picked (λ (n : ℕ). 0 < n) (eqb size 0) 2 3 (λ t. omega arith) (λ t. omega arith)
+    some (Bulk incoming) address size = omega arith
+    some (Interrupt incoming) address size = omega arith
+    some (Isoch incoming) address size = omega arith
 
-required-few : (request : Request) (lengths : List ℕ) → tooLong request lengths ≡ false → required request lengths ≤ packetCount
+required-few : (what : What) (size : ℕ) (lengths : List ℕ) → tooLong what size lengths ≡ false → countFor what size (length lengths) ≤ packetCount
 unfolding tooLong
-required-few (Control kind request value index address size) lengths t =
+required-few (Control type request value index) size lengths t =
     picked (λ (n : ℕ). n ≤ packetCount) (eqb size 0) 2 3 (λ u. omega arith) (λ u. omega arith)
-required-few (Bulk incoming address size) lengths t = omega arith
-required-few (Interrupt incoming address size) lengths t = omega arith
-required-few (Isoch incoming address size) lengths t =
+required-few (Bulk incoming) size lengths t = omega arith
+required-few (Interrupt incoming) size lengths t = omega arith
+required-few (Isoch incoming) size lengths t =
     let first = both-false (ltb packetCount (length lengths) || someOver lengths) (ltb size (sumOf lengths)) t .0 in
     omega (arith, ltb-false packetCount (length lengths) (both-false (ltb packetCount (length lengths)) (someOver lengths) first .0))
 
@@ -364,12 +368,12 @@ module _ (s : State) (request : Request) (lengths : List ℕ) (h : Sound s) (k :
       (λ (q : s .endpoint .at .place + 1 < s .endpoint .shape .slots). q)
       (eq-or-lt-of-le (place-slot (s .endpoint) (k .placing)))
 
-  roomy : s .endpoint .account .outstanding + required request lengths ≤ s .endpoint .shape .slots - 2
+  roomy : s .endpoint .account .outstanding + required request (length lengths) ≤ s .endpoint .shape .slots - 2
   unfolding startNo startTests crowded
   roomy = ltb-false _ _ (quiet (startTests (s .endpoint) (s .records) (length (s .packets)) request lengths) 3 refl t (omega arith))
 
   abbrev new : Record
-  new = recordFor request lengths (idTaken (s .endpoint) (s .records)) (s .endpoint .at .place)
+  new = recordFor request (length lengths) (idTaken (s .endpoint) (s .records)) (s .endpoint .at .place)
 
   abbrev after : List ℕ
   after = startedRecords (s .endpoint) (s .records) request lengths
@@ -390,7 +394,7 @@ module _ (s : State) (request : Request) (lengths : List ℕ) (h : Sound s) (k :
   started-bounds q l f =
       let r = recordTaken (s .endpoint) in
       ⊎-elim
-      (λ (e : q ≡ r). rw (ap (recordAt after) e ∙ new-here) (below, required-few request lengths (short s request lengths h t), omega arith))
+      (λ (e : q ≡ r). rw (ap (recordAt after) e ∙ new-here) (below, required-few (request .what) (request .length) lengths (short s request lengths h t), omega arith))
       (λ (d : q ≡ r → ⊥).
       let is = by-flies after (setBit (s .endpoint .account .occupancy) r) q .so f in
       let same = old-other q d in
@@ -400,7 +404,7 @@ module _ (s : State) (request : Request) (lengths : List ℕ) (h : Sound s) (k :
       rw same (k .bounds q l flew))
       (same-or-not q r)
 
-  started-placed : Placed (stateOf (startedEndpoint (s .endpoint) (s .records) request lengths) (s .ring) (s .finished) after (writePackets (s .packets) (recordTaken (s .endpoint)) request lengths))
+  started-placed : Placed (stateOf (startedEndpoint (s .endpoint) (s .records) request lengths) (s .ring) (s .finished) after (writePackets (s .packets) (recordTaken (s .endpoint)) (request .what) lengths))
   unfolding startedEndpoint charged
   started-placed =
       let e = startedEndpoint (s .endpoint) (s .records) request lengths in
@@ -414,7 +418,7 @@ module _ (s : State) (request : Request) (lengths : List ℕ) (h : Sound s) (k :
               most = omega arith;
               some = ap isNone (trb-next e (recordAt after (recordTaken (s .endpoint)))
                   (λ (q : s .endpoint .at .place + 1 ≡ s .endpoint .shape .slots). omega (arith, below))
-                  (rw new-here (count-some request lengths (idTaken (s .endpoint) (s .records)) (s .endpoint .at .place))));
+                  (rw new-here (count-some request (length lengths) (idTaken (s .endpoint) (s .records)) (s .endpoint .at .place))));
             });
         capacity = roomy;
         bounds = started-bounds;

@@ -43,7 +43,8 @@ use Rattle.dock.specs.declared.Outcome.{Outcome}
 use Rattle.dock.specs.declared.Outcome.the-variants.{Done, Refused}
 use Rattle.dock.specs.declared.ReclaimedOne.{ReclaimedOne}
 use Rattle.dock.specs.declared.Request.{Request}
-use Rattle.dock.specs.declared.Request.the-variants.{Control, Bulk, Interrupt, Isoch}
+use Rattle.dock.specs.declared.What.{What}
+use Rattle.dock.specs.declared.What.the-variants.{Control, Bulk, Interrupt, Isoch}
 use Rattle.dock.specs.declared.ResetBegun.{ResetBegun}
 use Rattle.dock.specs.declared.StoredOne.{StoredOne}
 use Rattle.dock.specs.declared.Taken.{Taken}
@@ -206,13 +207,13 @@ at-least-one [] h = omega arith
 at-least-one (n ∷ ns) h = h
 
 -- The packets of a request that is not too long lie within its record's.
-written-long : (packets : List ℕ) (r : ℕ) (request : Request) (lengths : List ℕ) → tooLong request lengths ≡ false → r < recordCount
-    → length packets ≡ packetsSize → length (writePackets packets r request lengths) ≡ packetsSize
+written-long : (packets : List ℕ) (r : ℕ) (what : What) (size : ℕ) (lengths : List ℕ) → tooLong what size lengths ≡ false → r < recordCount
+    → length packets ≡ packetsSize → length (writePackets packets r what lengths) ≡ packetsSize
 unfolding writePackets tooLong
-written-long packets r (Control kind request value index address size) lengths t l h = h
-written-long packets r (Bulk incoming address size) lengths t l h = h
-written-long packets r (Interrupt incoming address size) lengths t l h = h
-written-long packets r (Isoch incoming address size) lengths t l h =
+written-long packets r (Control type request value index) size lengths t l h = h
+written-long packets r (Bulk incoming) size lengths t l h = h
+written-long packets r (Interrupt incoming) size lengths t l h = h
+written-long packets r (Isoch incoming) size lengths t l h =
     let first = both-false (ltb packetCount (length lengths) || someOver lengths) (ltb size (sumOf lengths)) t .0 in
     let few = ltb-false packetCount (length lengths) (both-false (ltb packetCount (length lengths)) (someOver lengths) first .0) in
     let small = at-least-one lengths few in
@@ -227,7 +228,7 @@ module _ (s : State) (request : Request) (lengths : List ℕ) (h : Sound s)
       (quiet (startTests (s .endpoint) (s .records) (length (s .packets)) request lengths) 5 refl t (omega arith))
       (lowest-answers (s .endpoint .account .occupancy))
 
-  pub short : tooLong request lengths ≡ false
+  pub short : tooLong (request .what) (request .length) lengths ≡ false
   unfolding startNo startTests
   short = quiet (startTests (s .endpoint) (s .records) (length (s .packets)) request lengths) 4 refl t (omega arith)
 
@@ -235,18 +236,18 @@ module _ (s : State) (request : Request) (lengths : List ℕ) (h : Sound s)
       Sound
       (stateOf (startedEndpoint (s .endpoint) (s .records) request lengths) (s .ring) (s .finished)
       (startedRecords (s .endpoint) (s .records) request lengths)
-      (writePackets (s .packets) (recordTaken (s .endpoint)) request lengths))
+      (writePackets (s .packets) (recordTaken (s .endpoint)) (request .what) lengths))
   unfolding startedEndpoint startedRecords idTaken charged
   started-sound =
       let e = s .endpoint in
-      let v = recordFor request lengths (idTaken e (s .records)) (e .at .place) in
+      let v = recordFor request (length lengths) (idTaken e (s .records)) (e .at .place) in
       let r = recordTaken e in
       record {
         limits = h .limits;
         ringLong = h .ringLong;
         finishedLong = h .finishedLong;
         recordsLong = taken-long (e .account) (s .records) r v (taken .within) (taken .clear) (h .recordsLong) refl refl (h .books);
-        packetsLong = written-long (s .packets) r request lengths short (taken .within) (h .packetsLong);
+        packetsLong = written-long (s .packets) r (request .what) (request .length) lengths short (taken .within) (h .packetsLong);
         books = books-taken (e .account) (s .records) r v (taken .within) (taken .clear) (h .recordsLong) refl refl (h .books);
         underway = λ b. record {
           within = taken .within;

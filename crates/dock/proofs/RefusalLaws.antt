@@ -147,7 +147,7 @@ module _ (e : Endpoint) (records packets : List ℕ) (request : Request) (length
       ≡ (
         record { answer = outcome.Done; endpoint = startedEndpoint e records request lengths },
         startedRecords e records request lengths,
-        writePackets packets (recordTaken e) request lengths,
+        writePackets packets (recordTaken e) (request .what) lengths,
       )
   unfolding start
   start-acts passed = acts _ _ passed
@@ -209,9 +209,9 @@ module _ (e : Endpoint) (ring finished records packets : List ℕ) (request : Re
   -- Where it is admitted, the stores follow the start, on the endpoint and the tables that it left.
   pub submit-acts : ringsFit ≡ true → startNo e records (length packets) request lengths ≡ 0
       → let written = startedRecords e records request lengths in
-      let asked = writePackets packets (recordTaken e) request lengths in
+      let asked = writePackets packets (recordTaken e) (request .what) lengths in
       submit e ring finished records packets request lengths
-      ≡ joined (finish (mostStores request lengths) (startedEndpoint e records request lengths) ring finished written asked) written asked
+      ≡ joined (finish (mostStores request (length lengths)) (startedEndpoint e records request lengths) ring finished written asked) written asked
   unfolding submit
   submit-acts fit passed = rw (fit, start-acts e records packets request lengths passed)
 

@@ -19,7 +19,7 @@ use Rattle.dock.specs.HandOver.{handOverTests, handOverNo, foreign}
 use Rattle.dock.specs.Limits.{limitsHold, ringSize, packetsSize}
 use Rattle.dock.specs.Make.{makeTests, makeNo, sized}
 use Rattle.dock.specs.Reclaim.{reclaimTests, reclaimNo, badRecord}
-use Rattle.dock.specs.Requests.{addressOf, lengthOf, required}
+use Rattle.dock.specs.Requests.{required}
 use Rattle.dock.specs.Reset.{beginTests, beginNo, endTests, endNo, occupied}
 use Rattle.dock.specs.Retire.{recordTests, recordNo}
 use Rattle.dock.specs.Start.{crowded, tooLong, isFull, beyond, startTests, startNo}
@@ -94,16 +94,16 @@ module _ (e : Endpoint) (records packets : List ℕ) (request : Request) (length
   fit = fitsWith e records && eqb (length packets) packetsSize
 
   abbrev crowd : Bool
-  crowd = crowded (e .shape .slots) (e .account .outstanding) (required request lengths)
+  crowd = crowded (e .shape .slots) (e .account .outstanding) (required request (length lengths))
 
   abbrev full : Bool
   full = isFull (lowestClear (e .account .occupancy))
 
   abbrev out : Bool
-  out = beyond (e .who .mask) (addressOf request) (lengthOf request)
+  out = beyond (e .who .mask) (request .address) (request .length)
 
   pub start-rows : startNo e records (length packets) request lengths
-      ≡ pick (not fit) 1 (pick (e .work .busy) 12 (pick (e .flags .reset) 2 (pick crowd 2 (pick (tooLong request lengths) 3 (pick full 4 (pick out 5 0))))))
+      ≡ pick (not fit) 1 (pick (e .work .busy) 12 (pick (e .flags .reset) 2 (pick crowd 2 (pick (tooLong (request .what) (request .length) lengths) 3 (pick full 4 (pick out 5 0))))))
   unfolding startTests startNo
   start-rows = refl
 
@@ -123,10 +123,10 @@ module _ (e : Endpoint) (records packets : List ℕ) (request : Request) (length
         start-crowded d = start-rows ∙ rw (a, b, c, d)
 
         module _ (d : crowd ≡ false) where
-          pub start-too-long : tooLong request lengths ≡ true → startNo e records (length packets) request lengths ≡ 3
+          pub start-too-long : tooLong (request .what) (request .length) lengths ≡ true → startNo e records (length packets) request lengths ≡ 3
           start-too-long f = start-rows ∙ rw (a, b, c, d, f)
 
-          module _ (f : tooLong request lengths ≡ false) where
+          module _ (f : tooLong (request .what) (request .length) lengths ≡ false) where
             pub start-full : full ≡ true → startNo e records (length packets) request lengths ≡ 4
             start-full g = start-rows ∙ rw (a, b, c, d, f, g)
 

@@ -50,5 +50,5 @@ submit-reached {s} r request lengths =
     let a = starting.start e (s .records) (s .packets) request lengths in
     picked (λ (x : StoredAll × List ℕ × List ℕ × List ℕ × List ℕ). Reached (stateOf (x .0 .endpoint) (x .1) (x .2) (x .3) (x .4)))
     (eqb (length (s .ring)) (ringSize (e .shape .slots)) && eqb (length (s .finished)) (ringSize (e .shape .slots))) _ _
-    (λ t. by-started (a .0 .answer) (afterStart s request lengths) (mostStores request lengths) (started r request lengths))
+    (λ t. by-started (a .0 .answer) (afterStart s request lengths) (mostStores request (length lengths)) (started r request lengths))
     (λ t. r)

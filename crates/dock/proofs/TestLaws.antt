@@ -24,7 +24,8 @@ use Rattle.ids.specs.Free.{recordCount}
 use Rattle.packets.specs.Packets.{packetCount}
 use Rattle.records.specs.Records.{inFlight, recordAt}
 use Rattle.dock.specs.declared.Endpoint.{Endpoint}
-use Rattle.dock.specs.declared.Request.the-variants.{Control, Bulk, Interrupt, Isoch}
+use Rattle.dock.specs.declared.What.{What}
+use Rattle.dock.specs.declared.What.the-variants.{Control, Bulk, Interrupt, Isoch}
 use Rattle.dock.specs.Fit.{fits, placesFit, fitsWith, strays, flies, nextOf, isNone}
 use Rattle.dock.specs.HandOver.{isOutside, slotFor, foreign}
 use Rattle.dock.specs.Limits.{limitsHold, recordsSize, longest, longestControl}
@@ -190,8 +191,8 @@ unfolding beyond
 by-beyond mask address size = both (by-ltb 0 size) (either (by-ltb mask address) (by-ltb mask (address + size)))
 
 -- Row 3, by the kind of the request.
-module _ (kind request value index address size : ℕ) (lengths : List ℕ) where
-  pub by-too-long-control : Decides (tooLong (Control kind request value index address size) lengths) (65535 < size)
+module _ (type request value index size : ℕ) (lengths : List ℕ) where
+  pub by-too-long-control : Decides (tooLong (Control type request value index) size lengths) (65535 < size)
   unfolding tooLong
   by-too-long-control = by-ltb longestControl size
 
@@ -214,17 +215,17 @@ none-over (n ∷ ns) = reworded there back (either (by-ltb longest n) (none-over
     back : SomeOver longest (n ∷ ns) → (longest < n) ⊎ SomeOver longest ns
     back k = at (k .0) (k .1) (k .2)
 
-module _ (incoming : Bool) (address size : ℕ) (lengths : List ℕ) where
-  pub by-too-long-bulk : Decides (tooLong (Bulk incoming address size) lengths) (65536 < size)
+module _ (incoming : Bool) (size : ℕ) (lengths : List ℕ) where
+  pub by-too-long-bulk : Decides (tooLong (Bulk incoming) size lengths) (65536 < size)
   unfolding tooLong
   by-too-long-bulk = by-ltb longest size
 
-  pub by-too-long-interrupt : Decides (tooLong (Interrupt incoming address size) lengths) (65536 < size)
+  pub by-too-long-interrupt : Decides (tooLong (Interrupt incoming) size lengths) (65536 < size)
   unfolding tooLong
   by-too-long-interrupt = by-ltb longest size
 
   -- "Over 64 packets", one packet over 65,536, "or sum over buffer".
-  pub by-too-long-isoch : Decides (tooLong (Isoch incoming address size) lengths) (((64 < length lengths) ⊎ SomeOver 65536 lengths) ⊎ (size < sumOf lengths))
+  pub by-too-long-isoch : Decides (tooLong (Isoch incoming) size lengths) (((64 < length lengths) ⊎ SomeOver 65536 lengths) ⊎ (size < sumOf lengths))
   unfolding tooLong
   by-too-long-isoch = either (either (by-ltb packetCount (length lengths)) (none-over lengths)) (by-ltb size (sumOf lengths))
 

@@ -162,12 +162,12 @@ module _ (w : World) (h : Sound (w .dock)) (request : Request) (lengths : List �
       (by-eqb (length (s .finished)) (ringSize (s .endpoint .shape .slots))))
       (h .ringLong, h .finishedLong)
 
-  stored-dock : submitted w request lengths pauses .dock ≡ afterFinish (mostStores request lengths) (afterStart s request lengths)
+  stored-dock : submitted w request lengths pauses .dock ≡ afterFinish (mostStores request (length lengths)) (afterStart s request lengths)
   unfolding submitted
   stored-dock =
-      storing-dock (mostStores request lengths) pauses (started w request lengths)
-      ∙ ap (storesOf (mostStores request lengths)) (started-dock w request lengths)
-      ∙ stores-finish (mostStores request lengths) (afterStart s request lengths)
+      storing-dock (mostStores request (length lengths)) pauses (started w request lengths)
+      ∙ ap (storesOf (mostStores request (length lengths))) (started-dock w request lengths)
+      ∙ stores-finish (mostStores request (length lengths)) (afterStart s request lengths)
 
   abbrev passes : Type 0
   passes = startNo (s .endpoint) (s .records) (length (s .packets)) request lengths ≡ 0
@@ -176,7 +176,7 @@ module _ (w : World) (h : Sound (w .dock)) (request : Request) (lengths : List �
   unfolding afterFinish
   admitted-is p =
       stored-dock
-      ∙ ap (λ (a : Changed × List ℕ × List ℕ). afterFinish (mostStores request lengths)
+      ∙ ap (λ (a : Changed × List ℕ × List ℕ). afterFinish (mostStores request (length lengths))
       (stateOf (a .0 .endpoint) (s .ring) (s .finished) (a .1) (a .2)))
       (start-acts (s .endpoint) (s .records) (s .packets) request lengths p)
       ∙ ap (λ (a : StoredAll × List ℕ × List ℕ × List ℕ × List ℕ). stateOf (a .0 .endpoint) (a .1) (a .2) (a .3) (a .4))
@@ -189,9 +189,9 @@ module _ (w : World) (h : Sound (w .dock)) (request : Request) (lengths : List �
         let same : afterStart s request lengths ≡ s =
         ap (λ (a : Changed × List ℕ × List ℕ). stateOf (a .0 .endpoint) (s .ring) (s .finished) (a .1) (a .2))
         (start-refuses (s .endpoint) (s .records) (s .packets) request lengths p) in
-        storing-dock (mostStores request lengths) pauses (started w request lengths)
-        ∙ ap (storesOf (mostStores request lengths)) (started-dock w request lengths ∙ same)
-        ∙ stays (mostStores request lengths) s (rest-stays s free)
+        storing-dock (mostStores request (length lengths)) pauses (started w request lengths)
+        ∙ ap (storesOf (mostStores request (length lengths))) (started-dock w request lengths ∙ same)
+        ∙ stays (mostStores request (length lengths)) s (rest-stays s free)
         ∙ sym
         (ap (λ (a : StoredAll × List ℕ × List ℕ × List ℕ × List ℕ). stateOf (a .0 .endpoint) (a .1) (a .2) (a .3) (a .4))
         (submit-refuses (s .endpoint) (s .ring) (s .finished) (s .records) (s .packets) request lengths fit p))
@@ -226,11 +226,11 @@ unfolding storing
 storing-run zero pauses w r = r
 storing-run (suc n) pauses w r = storing-run n pauses (act (stepping (pauses n) w) stores) (run.andThen (stepping-run (pauses n) w r) stores refl)
 
-submitted-run : (w : World) (request : Request) (lengths : List ℕ) (pauses : ℕ → ℕ) → typed request ≡ true
+submitted-run : (w : World) (request : Request) (lengths : List ℕ) (pauses : ℕ → ℕ) → typed (request .what) ≡ true
     → Run w → Run (submitted w request lengths pauses)
 unfolding submitted
 submitted-run w request lengths pauses fits r =
-    storing-run (mostStores request lengths) pauses (started w request lengths) (run.andThen r (starts request lengths) fits)
+    storing-run (mostStores request (length lengths)) pauses (started w request lengths) (run.andThen r (starts request lengths) fits)
 
 pub whole-run : {w : World} → WholeRun w → Run w
 whole-run (made ring finished records packets slots base mask slot dci done) = run.made ring finished records packets slots base mask slot dci done

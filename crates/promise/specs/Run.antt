@@ -132,7 +132,7 @@ isFor w event n =
 
 abbrev pub may : World → Move → Bool
 may w (configures packet burst interval) = true
-may w (starts request lengths) = typed request
+may w (starts request lengths) = typed (request .what)
 may w stores = true
 may w (hands event number) = not (takes w event) || isFor w event number
 may w (reclaims id) = true
