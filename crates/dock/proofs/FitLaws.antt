@@ -33,6 +33,7 @@ use Rattle.records.specs.declared.Record.{Record}
 use Rattle.dock.specs.declared.Changed.{Changed}
 use Rattle.dock.specs.declared.Endpoint.{Endpoint}
 use Rattle.dock.specs.declared.Flags.{Flags}
+use Rattle.dock.specs.declared.Identity.{Identity}
 use Rattle.dock.specs.declared.Outcome.{Outcome}
 use Rattle.dock.specs.declared.Outcome.the-variants.{Done}
 use Rattle.dock.specs.declared.Periodic.{Periodic}
@@ -47,7 +48,7 @@ use Rattle.dock.specs.Fit.{placesFit, fits, flies, strays, fitsWith, Nex
 use Rattle.dock.specs.State.{fresh, idle, moved}
 use Rattle.dock.specs.Make.{makeNo, make, zeros}
 use Rattle.dock.specs.Configure.{plainTests, plainNo, configure}
-use Rattle.dock.specs.Requests.{countFor, recordFor, required}
+use Rattle.dock.specs.Requests.{countFor, withWhat, recordFor, required}
 use Rattle.dock.specs.Start.{crowded, tooLong, someOver, sumOf, startTests, startNo, recordTaken, idTaken, charged, writePackets, startedEndpoint, startedRecords, start}
 use Rattle.dock.specs.Stores.{trbCount}
 use Rattle.dock.specs.Store.{storeTests, storeNo, stepped, settled}
@@ -113,7 +114,7 @@ last-slot e p q =
     ))
     (either-true plain more (left-true (plain || more) started p))
 
-pub fits-true : (e : Endpoint) → limitsHold (e .shape .slots) (e .shape .base) (e .who .slot) (e .who .dci) ≡ true → placesFit e ≡ true
+pub fits-true : (e : Endpoint) → limitsHold (e .shape) (e .who) ≡ true → placesFit e ≡ true
     → 0 < e .account .next → fits e ≡ true
 fits-true e limits places above = if-so (by-fits e) ((limits, places), ne-eqb (e .account .next) 0 (λ (z : e .account .next ≡ 0). omega arith))
 
@@ -262,32 +263,32 @@ pub record Placed (s : State) : Type 0 where
       → (recordAt (s .records) r .place + 1 < s .endpoint .shape .slots) × (recordAt (s .records) r .count ≤ packetCount) × Measured (recordAt (s .records) r)
 
 -- Making.
-fresh-placed : (slots base mask slot dci : ℕ) (ring finished records packets : List ℕ) → 3 ≤ slots
-    → Placed (stateOf (fresh slots base mask slot dci) ring finished records packets)
-fresh-placed slots base mask slot dci ring finished records packets some = record {
-  placing = places-true (fresh slots base mask slot dci) (omega arith) (λ (q : 0 + 1 ≡ slots). absurd (omega arith)) (λ b. absurd (never-both b refl));
-  straight = strays-none (fresh slots base mask slot dci) records (λ b. absurd (never-both b refl));
+fresh-placed : (shape : Shape) (who : Identity) (ring finished records packets : List ℕ) → 3 ≤ shape .slots
+    → Placed (stateOf (fresh shape who) ring finished records packets)
+fresh-placed shape who ring finished records packets some = record {
+  placing = places-true (fresh shape who) (omega arith) (λ (q : 0 + 1 ≡ shape .slots). absurd (omega arith)) (λ b. absurd (never-both b refl));
+  straight = strays-none (fresh shape who) records (λ b. absurd (never-both b refl));
   capacity = omega arith;
   bounds = λ r l f. absurd (omega (arith, by-flies records 0 r .so f .0, bit-none r));
 }
 
-make-placed : (ring finished records packets : List ℕ) (slots base mask slot dci : ℕ)
-    → make ring finished records packets slots base mask slot dci .0 .answer ≡ Done
+make-placed : (ring finished records packets : List ℕ) (shape : Shape) (who : Identity)
+    → make ring finished records packets shape who .0 .answer ≡ Done
     → Placed
     (stateOf
-    (make ring finished records packets slots base mask slot dci .0 .endpoint)
-    (make ring finished records packets slots base mask slot dci .1)
-    (make ring finished records packets slots base mask slot dci .2)
-    (make ring finished records packets slots base mask slot dci .3)
-    (make ring finished records packets slots base mask slot dci .4))
+    (make ring finished records packets shape who .0 .endpoint)
+    (make ring finished records packets shape who .1)
+    (make ring finished records packets shape who .2)
+    (make ring finished records packets shape who .3)
+    (make ring finished records packets shape who .4))
 unfolding make
-make-placed ring finished records packets slots base mask slot dci =
+make-placed ring finished records packets shape who =
     picked
     (λ (t : Changed × List ℕ × List ℕ × List ℕ × List ℕ). t .0 .answer ≡ Done → Placed (stateOf (t .0 .endpoint) (t .1) (t .2) (t .3) (t .4)))
-    (eqb (makeNo (length ring) (length finished) (length records) (length packets) slots base slot dci) 0)
+    (eqb (makeNo (length ring) (length finished) (length records) (length packets) shape who) 0)
     _ _
-    (λ t d. fresh-placed slots base mask slot dci (zeros ring) (zeros finished) (zeros records) (zeros packets)
-    (slots-some _ (fresh-sound ring finished records packets slots base mask slot dci (eqb-true _ _ t))))
+    (λ t d. fresh-placed shape who (zeros ring) (zeros finished) (zeros records) (zeros packets)
+    (slots-some _ (fresh-sound ring finished records packets shape who (eqb-true _ _ t))))
     (λ t d. absurd (not-done _ d))
 
 -- Calls that change only settings and flags, or tables that are no records.
@@ -336,14 +337,14 @@ hand-placed s event k = record { placing = k .placing; straight = k .straight; c
 -- The start of a submission: its record has a TRB to store, and at most 64.
 count-some : (request : Request) (count id place : ℕ) → 0 < trbCount (recordFor request count id place)
 unfolding trbCount
-count-some request count id place = some (request .what) (request .address) (request .length)
+count-some request count id place = some (request .what)
   where
-    some : (what : What) (address size : ℕ) → 0 < trbCount (recordFor (record { what = what; address = address; length = size }) count id place)
-    some (Control type request value index) address size =
-        picked (λ (n : ℕ). 0 < n) (eqb size 0) 2 3 (λ t. omega arith) (λ t. omega arith)
-    some (Bulk incoming) address size = omega arith
-    some (Interrupt incoming) address size = omega arith
-    some (Isoch incoming) address size = omega arith
+    some : (what : What) → 0 < trbCount (recordFor (withWhat request what) count id place)
+    some (Control type code value index) =
+        picked (λ (n : ℕ). 0 < n) (eqb (request .length) 0) 2 3 (λ t. omega arith) (λ t. omega arith)
+    some (Bulk incoming) = omega arith
+    some (Interrupt incoming) = omega arith
+    some (Isoch incoming) = omega arith
 
 required-few : (what : What) (size : ℕ) (lengths : List ℕ) → tooLong what size lengths ≡ false → countFor what size (length lengths) ≤ packetCount
 unfolding tooLong
@@ -537,7 +538,7 @@ reclaim-placed s id k =
 -- ---- the theorem
 
 pub reached-placed : {s : State} → Reached s → Placed s
-reached-placed (made ring finished records packets slots base mask slot dci d) = make-placed ring finished records packets slots base mask slot dci d
+reached-placed (made ring finished records packets shape who d) = make-placed ring finished records packets shape who d
 reached-placed (configured {s} r packet burst interval) = configure-placed s packet burst interval (reached-placed r)
 reached-placed (started {s} r request lengths) = start-placed s request lengths (reached-sound r) (reached-placed r)
 reached-placed (stored {s} r) = store-placed s (reached-sound r) (reached-placed r)

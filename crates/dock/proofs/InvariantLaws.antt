@@ -39,10 +39,12 @@ use Rattle.records.specs.declared.Record.{Record}
 use Rattle.event.specs.Event.{eventOf}
 use Rattle.dock.specs.declared.Changed.{Changed}
 use Rattle.dock.specs.declared.Endpoint.{Endpoint}
+use Rattle.dock.specs.declared.Identity.{Identity}
 use Rattle.dock.specs.declared.Outcome.{Outcome}
 use Rattle.dock.specs.declared.Outcome.the-variants.{Done, Refused}
 use Rattle.dock.specs.declared.ReclaimedOne.{ReclaimedOne}
 use Rattle.dock.specs.declared.Request.{Request}
+use Rattle.dock.specs.declared.Shape.{Shape}
 use Rattle.dock.specs.declared.What.{What}
 use Rattle.dock.specs.declared.What.the-variants.{Control, Bulk, Interrupt, Isoch}
 use Rattle.dock.specs.declared.ResetBegun.{ResetBegun}
@@ -114,14 +116,14 @@ follows-sound s e ring finished h f r t = record {
 pub not-done : (n : ℕ) → Refused n ≡ Done → ⊥
 not-done n e = let z : _≡_ {A = ℕ} 0 1 = cc in omega arith
 
-module _ (ring finished records packets : List ℕ) (slots base mask slot dci : ℕ) where
+module _ (ring finished records packets : List ℕ) (shape : Shape) (who : Identity) where
   zeros-long : (l : List ℕ) (n : ℕ) → length l ≡ n → length (zeros l) ≡ n
   zeros-long l n e = length-replicate (length l) 0 ∙ e
 
   none-held : (r : ℕ) → bit 0 r ≡ 1 → ⊥
   none-held r h = omega (arith, bit-none r)
 
-  books-fresh : (l : List ℕ) → Books (fresh slots base mask slot dci .account) l
+  books-fresh : (l : List ℕ) → Books (fresh shape who .account) l
   unfolding flightSum
   books-fresh l = record {
     nextAbove = omega arith;
@@ -134,39 +136,39 @@ module _ (ring finished records packets : List ℕ) (slots base mask slot dci : 
     outstandingSum = sym (sum-none recordCount (flightPart l 0) (λ r k. part-none l 0 r (λ h. none-held r (h .0))));
   }
 
-  by-sized : (r f e p : ℕ) → Decides (sized slots r f e p) ((((r ≡ ringSize slots) × (f ≡ ringSize slots)) × (e ≡ recordsSize)) × (p ≡ packetsSize))
+  by-sized : (r f e p : ℕ) → Decides (sized (shape .slots) r f e p) ((((r ≡ ringSize (shape .slots)) × (f ≡ ringSize (shape .slots))) × (e ≡ recordsSize)) × (p ≡ packetsSize))
   unfolding sized
-  by-sized r f e p = both (both (both (by-eqb r (ringSize slots)) (by-eqb f (ringSize slots))) (by-eqb e recordsSize)) (by-eqb p packetsSize)
+  by-sized r f e p = both (both (both (by-eqb r (ringSize (shape .slots))) (by-eqb f (ringSize (shape .slots)))) (by-eqb e recordsSize)) (by-eqb p packetsSize)
 
-  pub fresh-sound : makeNo (length ring) (length finished) (length records) (length packets) slots base slot dci ≡ 0
-      → Sound (stateOf (fresh slots base mask slot dci) (zeros ring) (zeros finished) (zeros records) (zeros packets))
+  pub fresh-sound : makeNo (length ring) (length finished) (length records) (length packets) shape who ≡ 0
+      → Sound (stateOf (fresh shape who) (zeros ring) (zeros finished) (zeros records) (zeros packets))
   unfolding makeNo makeTests
   fresh-sound t =
-      let ts = makeTests (length ring) (length finished) (length records) (length packets) slots base slot dci in
+      let ts = makeTests (length ring) (length finished) (length records) (length packets) shape who in
       let sizes = by-sized (length ring) (length finished) (length records) (length packets) .so (not-false _ (quiet ts 1 refl t (omega arith))) in
       record {
         limits = not-false _ (quiet ts 0 refl t (omega arith));
-        ringLong = zeros-long ring (ringSize slots) (sizes .0 .0 .0);
-        finishedLong = zeros-long finished (ringSize slots) (sizes .0 .0 .1);
+        ringLong = zeros-long ring (ringSize (shape .slots)) (sizes .0 .0 .0);
+        finishedLong = zeros-long finished (ringSize (shape .slots)) (sizes .0 .0 .1);
         recordsLong = zeros-long records recordsSize (sizes .0 .1);
         packetsLong = zeros-long packets packetsSize (sizes .1);
         books = books-fresh (zeros records);
         underway = λ b. absurd (never-both b refl);
       }
 
-  make-sound : make ring finished records packets slots base mask slot dci .0 .answer ≡ Done
+  make-sound : make ring finished records packets shape who .0 .answer ≡ Done
       → Sound
       (stateOf
-      (make ring finished records packets slots base mask slot dci .0 .endpoint)
-      (make ring finished records packets slots base mask slot dci .1)
-      (make ring finished records packets slots base mask slot dci .2)
-      (make ring finished records packets slots base mask slot dci .3)
-      (make ring finished records packets slots base mask slot dci .4))
+      (make ring finished records packets shape who .0 .endpoint)
+      (make ring finished records packets shape who .1)
+      (make ring finished records packets shape who .2)
+      (make ring finished records packets shape who .3)
+      (make ring finished records packets shape who .4))
   unfolding make
   make-sound =
       picked
       (λ (t : Changed × List ℕ × List ℕ × List ℕ × List ℕ). t .0 .answer ≡ Done → Sound (stateOf (t .0 .endpoint) (t .1) (t .2) (t .3) (t .4)))
-      (eqb (makeNo (length ring) (length finished) (length records) (length packets) slots base slot dci) 0)
+      (eqb (makeNo (length ring) (length finished) (length records) (length packets) shape who) 0)
       _ _
       (λ t d. fresh-sound (eqb-true _ _ t))
       (λ t d. absurd (not-done _ d))
@@ -273,7 +275,7 @@ pub by-not : (b : Bool) → Decides (not b) (b ≡ false)
 by-not b = record { so = not-true b; not-so = λ f t. never-both (not-false b f) t }
 
 pub by-fits : (e : Endpoint)
-    → Decides (fits e) (((limitsHold (e .shape .slots) (e .shape .base) (e .who .slot) (e .who .dci) ≡ true) × (placesFit e ≡ true)) × (eqb (e .account .next) 0 ≡ false))
+    → Decides (fits e) (((limitsHold (e .shape) (e .who) ≡ true) × (placesFit e ≡ true)) × (eqb (e .account .next) 0 ≡ false))
 unfolding fits
 by-fits e = both (both (by-true _) (by-true (placesFit e))) (by-not (eqb (e .account .next) 0))
 
@@ -584,7 +586,7 @@ reclaim-sound s id h =
 -- ---- the theorem
 
 pub reached-sound : {s : State} → Reached s → Sound s
-reached-sound (made ring finished records packets slots base mask slot dci d) = make-sound ring finished records packets slots base mask slot dci d
+reached-sound (made ring finished records packets shape who d) = make-sound ring finished records packets shape who d
 reached-sound (configured {s} r packet burst interval) = configure-sound s packet burst interval (reached-sound r)
 reached-sound (started {s} r request lengths) = start-sound s request lengths (reached-sound r)
 reached-sound (stored {s} r) = store-sound s (reached-sound r)

@@ -13,8 +13,10 @@ use Rattle.trb.specs.declared.Words.{Words}
 use Rattle.records.specs.Records.{inFlight, stopped, recordAt}
 use Rattle.dock.specs.declared.Account.{Account}
 use Rattle.dock.specs.declared.Endpoint.{Endpoint}
+use Rattle.dock.specs.declared.Identity.{Identity}
 use Rattle.dock.specs.declared.Outcome.the-variants.{Done}
 use Rattle.dock.specs.declared.Request.{Request}
+use Rattle.dock.specs.declared.Shape.{Shape}
 use Rattle.dock.specs.Limits.{limitsHold, ringSize, recordsSize, packetsSize}
 use Rattle.dock.specs.Fit.{flies}
 use Rattle.dock.specs.Make.{make}
@@ -89,15 +91,15 @@ afterEnd s worked = stateOf (endReset (s .endpoint) worked .endpoint) (s .ring) 
 
 -- Stop, resume and pointer change nothing, and a whole submission is a start and stores (`submit-reached`): they have no case here.
 pub data Reached : State → Type 0 where
-  made : (ring finished records packets : List ℕ) (slots base mask slot dci : ℕ)
-      → make ring finished records packets slots base mask slot dci .0 .answer ≡ Done
+  made : (ring finished records packets : List ℕ) (shape : Shape) (who : Identity)
+      → make ring finished records packets shape who .0 .answer ≡ Done
       → Reached
       (stateOf
-      (make ring finished records packets slots base mask slot dci .0 .endpoint)
-      (make ring finished records packets slots base mask slot dci .1)
-      (make ring finished records packets slots base mask slot dci .2)
-      (make ring finished records packets slots base mask slot dci .3)
-      (make ring finished records packets slots base mask slot dci .4))
+      (make ring finished records packets shape who .0 .endpoint)
+      (make ring finished records packets shape who .1)
+      (make ring finished records packets shape who .2)
+      (make ring finished records packets shape who .3)
+      (make ring finished records packets shape who .4))
   configured : {s : State} → Reached s → (packet burst interval : ℕ) → Reached (afterConfigure s packet burst interval)
   started : {s : State} → Reached s → (request : Request) (lengths : List ℕ) → Reached (afterStart s request lengths)
   stored : {s : State} → Reached s → Reached (afterStore s)
@@ -139,7 +141,7 @@ pub record Underway (number occupancy : ℕ) (records : List ℕ) : Type 0 where
   pub flying : flies records occupancy number ≡ true
 
 pub record Sound (s : State) : Type 0 where
-  pub limits : limitsHold (s .endpoint .shape .slots) (s .endpoint .shape .base) (s .endpoint .who .slot) (s .endpoint .who .dci) ≡ true
+  pub limits : limitsHold (s .endpoint .shape) (s .endpoint .who) ≡ true
   pub ringLong : length (s .ring) ≡ ringSize (s .endpoint .shape .slots)
   pub finishedLong : length (s .finished) ≡ ringSize (s .endpoint .shape .slots)
   pub recordsLong : length (s .records) ≡ recordsSize

@@ -24,6 +24,7 @@ use Rattle.dock.specs.Stores.{trbOf, trbCount}
 use Rattle.dock.specs.Worth.{Worth, bytes, refused, worth, counts}
 use Rattle.dock.specs.declared.Endpoint.{Endpoint}
 use Rattle.dock.specs.declared.Request.{Request}
+use Rattle.dock.specs.declared.What.{What}
 use Rattle.dock.specs.declared.What.the-variants.{Control, Bulk, Isoch}
 use Rattle.dock.specs.Limits.{limitsHold, recordsSize, packetsSize}
 use Rattle.dock.specs.Fit.{fits, placesFit, strays, fitsWith, nextOf}
@@ -45,17 +46,20 @@ slotIn (storedAs.Refused number) = 4096 + number
 
 -- A fresh endpoint of so many slots, at base 10000, with mask ffffffff.
 dockOf : ℕ → Endpoint
-dockOf slots = fresh slots 65536 4294967295 1 1
+dockOf slots = fresh (record { slots = slots; base = 65536 }) (record { slot = 1; dci = 1; mask = 4294967295 })
 
 -- The requests of the readings, at an address and of a length; bulk and ISO ones go in.
+asking : What → ℕ → ℕ → Request
+asking what address size = record { what = what; address = address; length = size }
+
 controlOf : ℕ → ℕ → ℕ → ℕ → ℕ → ℕ → Request
-controlOf type request value index address size = record { what = Control type request value index; address = address; length = size }
+controlOf type request value index address size = asking (Control type request value index) address size
 
 bulkOf : ℕ → ℕ → Request
-bulkOf address size = record { what = Bulk true; address = address; length = size }
+bulkOf address size = asking (Bulk true) address size
 
 isochOf : ℕ → ℕ → Request
-isochOf address size = record { what = Isoch true; address = address; length = size }
+isochOf address size = asking (Isoch true) address size
 
 -- The number that a submission gets.
 gets : Endpoint → Request → List ℕ → ℕ
@@ -178,5 +182,5 @@ allTrue (b ∷ bs) = b && allTrue bs
 
 -- Every reading holds.
 pub all-read : allTrue readings ≡ true
-unfolding readings allTrue w1 w2 w3w4 w5 w6 w7 w8 w9 w10 admits gets heldWith dockOf controlOf bulkOf isochOf isoOf noRecords noPackets stored submitted wordIn slotIn periodicOf startNo startTests crowded tooLong beyond charged recordTaken idTaken startedEndpoint startedRecords writePackets start store storeNo storeTests stepped slotStored ringStored finishedStored settled storedAnswer nextOf trbOf trbCount fits placesFit strays fitsWith limitsHold configure plainNo plainTests worth counts lowestClear clearFrom bit setBit freeId freeFrom heldBy any recordAt wordsOf storeAt putWords put burstsOf packetsOf packetAt
+unfolding readings allTrue w1 w2 w3w4 w5 w6 w7 w8 w9 w10 admits gets heldWith dockOf asking controlOf bulkOf isochOf isoOf noRecords noPackets stored submitted wordIn slotIn periodicOf startNo startTests crowded tooLong beyond charged recordTaken idTaken startedEndpoint startedRecords writePackets start store storeNo storeTests stepped slotStored ringStored finishedStored settled storedAnswer nextOf trbOf trbCount fits placesFit strays fitsWith limitsHold configure plainNo plainTests worth counts lowestClear clearFrom bit setBit freeId freeFrom heldBy any recordAt wordsOf storeAt putWords put burstsOf packetsOf packetAt
 all-read = refl

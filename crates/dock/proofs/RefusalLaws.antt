@@ -16,11 +16,13 @@ use Rattle.finished.specs.Finished.{fillPlace}
 use Rattle.records.specs.Records.{recordAt}
 use Rattle.dock.specs.declared.Command.the-variants as command
 use Rattle.dock.specs.declared.Endpoint.{Endpoint}
+use Rattle.dock.specs.declared.Identity.{Identity}
 use Rattle.dock.specs.declared.Outcome.the-variants as outcome
 use Rattle.dock.specs.declared.Pointed.the-variants as pointed
 use Rattle.dock.specs.declared.Reclaimed.the-variants as reclaimed
 use Rattle.dock.specs.declared.Request.{Request}
 use Rattle.dock.specs.declared.Resetting.the-variants as resetting
+use Rattle.dock.specs.declared.Shape.{Shape}
 use Rattle.dock.specs.declared.Stored.the-variants as stored
 use Rattle.dock.specs.declared.Submitted.the-variants as submitted
 use Rattle.dock.specs.declared.Taken.the-variants as taken
@@ -47,24 +49,24 @@ pick-false x y q = rw q
 
 -- ---- making
 
-module _ (ring finished records packets : List ℕ) (slots base mask slot dci : ℕ) where
+module _ (ring finished records packets : List ℕ) (shape : Shape) (who : Identity) where
   abbrev numberOfMake : ℕ
-  numberOfMake = makeNo (length ring) (length finished) (length records) (length packets) slots base slot dci
+  numberOfMake = makeNo (length ring) (length finished) (length records) (length packets) shape who
 
-  pub make-exact : Exact (makeTests (length ring) (length finished) (length records) (length packets) slots base slot dci) numberOfMake
+  pub make-exact : Exact (makeTests (length ring) (length finished) (length records) (length packets) shape who) numberOfMake
   unfolding makeTests makeNo
-  make-exact = exact (makeTests (length ring) (length finished) (length records) (length packets) slots base slot dci) refl
+  make-exact = exact (makeTests (length ring) (length finished) (length records) (length packets) shape who) refl
 
   -- A making that is refused leaves the tables, and gives back no endpoint.
   pub make-refuses : (numberOfMake ≡ 0 → ⊥)
-      → make ring finished records packets slots base mask slot dci
+      → make ring finished records packets shape who
       ≡ (record { answer = outcome.Refused numberOfMake; endpoint = blank }, ring, finished, records, packets)
   unfolding make
   make-refuses refused = declines _ _ refused
 
   pub make-acts : numberOfMake ≡ 0
-      → make ring finished records packets slots base mask slot dci
-      ≡ (record { answer = outcome.Done; endpoint = fresh slots base mask slot dci }, zeros ring, zeros finished, zeros records, zeros packets)
+      → make ring finished records packets shape who
+      ≡ (record { answer = outcome.Done; endpoint = fresh shape who }, zeros ring, zeros finished, zeros records, zeros packets)
   unfolding make
   make-acts passed = acts _ _ passed
 

@@ -22,10 +22,12 @@ use Rattle.packets.specs.Packets.{packetCount, packetIndex, packetAt}
 use Rattle.records.specs.Records.{control, bulk, interrupt, isoch, inFlight, stopped, recordAt}
 use Rattle.packets.specs.declared.Packet.{Packet}
 use Rattle.dock.specs.declared.Endpoint.{Endpoint}
+use Rattle.dock.specs.declared.Identity.{Identity}
 use Rattle.dock.specs.declared.ReclaimedOne.{ReclaimedOne}
 use Rattle.dock.specs.declared.Changed.{Changed}
 use Rattle.dock.specs.declared.Outcome.the-variants.{Done}
 use Rattle.dock.specs.declared.Request.{Request}
+use Rattle.dock.specs.declared.Shape.{Shape}
 use Rattle.dock.specs.declared.What.{What}
 use Rattle.dock.specs.declared.What.the-variants.{Control, Bulk, Interrupt, Isoch}
 use Rattle.dock.specs.Limits.{packetsSize}
@@ -172,18 +174,18 @@ zeros-modest : (l : List ℕ) → Modest (zeros l)
 unfolding packetAt
 zeros-modest l r k low small = rw (zero-at (length l) (packetIndex r k)) (omega arith)
 
-make-modest : (ring finished records packets : List ℕ) (slots base mask slot dci : ℕ) → make ring finished records packets slots base mask slot dci .0 .answer ≡ Done
-    → Modest (make ring finished records packets slots base mask slot dci .4)
+make-modest : (ring finished records packets : List ℕ) (shape : Shape) (who : Identity) → make ring finished records packets shape who .0 .answer ≡ Done
+    → Modest (make ring finished records packets shape who .4)
 unfolding make
-make-modest ring finished records packets slots base mask slot dci =
+make-modest ring finished records packets shape who =
     picked (λ (t : Changed × List ℕ × List ℕ × List ℕ × List ℕ). t .0 .answer ≡ Done → Modest (t .4))
-    (eqb (makeNo (length ring) (length finished) (length records) (length packets) slots base slot dci) 0) _ _
+    (eqb (makeNo (length ring) (length finished) (length records) (length packets) shape who) 0) _ _
     (λ t d. zeros-modest packets) (λ t d. absurd (not-done _ d))
 
 -- ---- the theorem
 
 pub reached-modest : {s : State} → Reached s → Modest (s .packets)
-reached-modest (made ring finished records packets slots base mask slot dci d) = make-modest ring finished records packets slots base mask slot dci d
+reached-modest (made ring finished records packets shape who d) = make-modest ring finished records packets shape who d
 reached-modest (configured r packet burst interval) = reached-modest r
 reached-modest (started {s} r request lengths) = start-modest s request lengths (reached-modest r)
 reached-modest (stored r) = reached-modest r

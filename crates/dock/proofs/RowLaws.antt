@@ -11,7 +11,9 @@ use Rattle.trb.specs.declared.Words.{Words}
 use Rattle.mask.specs.Compute.{lowestClear}
 use Rattle.ids.specs.Lookup.{findIn}
 use Rattle.dock.specs.declared.Endpoint.{Endpoint}
+use Rattle.dock.specs.declared.Identity.{Identity}
 use Rattle.dock.specs.declared.Request.{Request}
+use Rattle.dock.specs.declared.Shape.{Shape}
 use Rattle.dock.specs.Cancel.{cancelTests, cancelNo, notFlying}
 use Rattle.dock.specs.Configure.{plainTests, plainNo}
 use Rattle.dock.specs.Fit.{fitsWith, fits}
@@ -26,11 +28,11 @@ use Rattle.dock.specs.Start.{crowded, tooLong, isFull, beyond, startTest
 use Rattle.dock.specs.Store.{storeTests, storeNo}
 
 -- "Making knows only 13, then 1."
-pub make-rows : (ring finished records packets slots base slot dci : ℕ)
-    → makeNo ring finished records packets slots base slot dci
-    ≡ pick (not (limitsHold slots base slot dci)) 13 (pick (not (sized slots ring finished records packets)) 1 0)
+pub make-rows : (ring finished records packets : ℕ) (shape : Shape) (who : Identity)
+    → makeNo ring finished records packets shape who
+    ≡ pick (not (limitsHold shape who)) 13 (pick (not (sized (shape .slots) ring finished records packets)) 1 0)
 unfolding makeTests makeNo
-make-rows ring finished records packets slots base slot dci = refl
+make-rows ring finished records packets shape who = refl
 
 module _ (e : Endpoint) where
   -- Configuring, stop, resume, the pointer: 1, then 12.

@@ -19,7 +19,7 @@ use Rattle.dock.specs.declared.What.{What}
 use Rattle.dock.specs.declared.What.the-variants.{Control, Bulk, Interrupt, Isoch}
 use Rattle.dock.specs.Fit.{theTrb, nextOf, isNone}
 use Rattle.dock.specs.Limits.{ringSize}
-use Rattle.dock.specs.Requests.{countFor, required, recordFor}
+use Rattle.dock.specs.Requests.{countFor, required, withWhat, recordFor}
 use Rattle.dock.specs.Start.{startNo, tooLong, recordTaken, idTaken, charged, writePackets, startedEndpoint, startedRecords}
 use Rattle.dock.specs.Stores.{trbCount}
 use Rattle.dock.proofs.NextLaws.{is-next, Storing}
@@ -30,14 +30,14 @@ use Rattle.dock.proofs.StartLaws.{Starting, start-admitted, record-belo
 pub count-is : (request : Request) (lengths : List ℕ) (id place : ℕ) → tooLong (request .what) (request .length) lengths ≡ false
     → trbCount (recordFor request (length lengths) id place) ≡ required request (length lengths)
 unfolding trbCount
-count-is request lengths id place = counted (request .what) (request .address) (request .length)
+count-is request lengths id place = counted (request .what)
   where
-    counted : (what : What) (address size : ℕ) → tooLong what size lengths ≡ false
-        → trbCount (recordFor (record { what = what; address = address; length = size }) (length lengths) id place) ≡ countFor what size (length lengths)
-    counted (Control type request value index) address size short = refl
-    counted (Bulk incoming) address size short = refl
-    counted (Interrupt incoming) address size short = refl
-    counted (Isoch incoming) address size short = omega (arith, few-packets incoming size lengths short)
+    counted : (what : What) → tooLong what (request .length) lengths ≡ false
+        → trbCount (recordFor (withWhat request what) (length lengths) id place) ≡ countFor what (request .length) (length lengths)
+    counted (Control type code value index) short = refl
+    counted (Bulk incoming) short = refl
+    counted (Interrupt incoming) short = refl
+    counted (Isoch incoming) short = omega (arith, few-packets incoming (request .length) lengths short)
 
 two-or-three : (b : Bool) → 0 < pick b 2 3
 two-or-three true = omega arith

@@ -52,6 +52,10 @@ required request count = countFor (request .what) (request .length) count
 abbrev pub bufferOf : Request → ℕ
 bufferOf request = pick (eqb (request .length) 0) 0 (request .address)
 
+-- The request with something else asked for.
+abbrev pub withWhat : Request → What → Request
+withWhat request what = record { what = what; address = request .address; length = request .length }
+
 -- The record that is kept of a request with so many packet lengths, under an id, its first TRB at a place.
 abbrev pub recordFor : Request → ℕ → ℕ → ℕ → Record
 recordFor request count id place =

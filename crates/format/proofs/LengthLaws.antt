@@ -19,6 +19,7 @@ use Rattle.dock.specs.declared.Request.{Request}
 use Rattle.dock.specs.declared.What.the-variants.{Isoch}
 use Rattle.dock.specs.Fit.{fitsWith}
 use Rattle.dock.specs.Limits.{packetsSize}
+use Rattle.dock.specs.Requests.{withWhat}
 use Rattle.dock.specs.Start.{crowded, startTests, startNo, start}
 use Rattle.lines.specs.Reader.{keep}
 
@@ -48,9 +49,9 @@ some-no false true c e = omega arith
 some-no false false true e = omega arith
 some-no false false false e = omega arith
 
-module _ (e : Endpoint) (records packets : List ℕ) (incoming : Bool) (address size : ℕ) where
+module _ (e : Endpoint) (records packets : List ℕ) (request : Request) (incoming : Bool) where
   abbrev iso : Request
-  iso = record { what = Isoch incoming; address = address; length = size }
+  iso = withWhat request (Isoch incoming)
 
   abbrev refusal : Changed × List ℕ × List ℕ
   refusal = (record { answer = Refused (crowdedNo (not (fitsWith e records && eqb (length packets) packetsSize)) (e .work .busy) (e .flags .reset)); endpoint = e }, records, packets)

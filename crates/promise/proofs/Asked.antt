@@ -31,7 +31,7 @@ use Rattle.dock.specs.declared.What.{What}
 use Rattle.dock.specs.declared.What.the-variants as asks
 use Rattle.dock.specs.Fit.{theTrb}
 use Rattle.dock.specs.Limits.{packetsSize}
-use Rattle.dock.specs.Requests.{countFor, bufferOf, required, recordFor}
+use Rattle.dock.specs.Requests.{countFor, bufferOf, required, withWhat, recordFor}
 use Rattle.dock.specs.Start.{tooLong, atLeastOne, writePackets}
 use Rattle.dock.specs.Store.{stepped}
 use Rattle.dock.specs.Stores.{trbCount, trbOf}
@@ -45,13 +45,15 @@ use Rattle.promise.specs.Requested.{stored, some, controlTrbs, normalTrb
 use Rattle.promise.proofs.Kept.{upcoming}
 use Rattle.promise.proofs.Laid.{bare, bared}
 
--- A request, from its parts.
-abbrev asking : What → ℕ → ℕ → Request
-asking what address size = record { what = what; address = address; length = size }
-
 -- ---- control
 
-module _ (type request value index address size : ℕ) (fits : typed (asks.Control type request value index) ≡ true) where
+module _ (type request value index : ℕ) (given : Request) (fits : typed (asks.Control type request value index) ≡ true) where
+  abbrev address : ℕ
+  address = given .address
+
+  abbrev size : ℕ
+  size = given .length
+
   record Small : Type 0 where
     type-small : type < 2 ^ 8
     request-small : request < 2 ^ 8
@@ -82,7 +84,7 @@ module _ (type request value index address size : ℕ) (fits : typed (asks.Contr
   module _ (lengths : List ℕ) (id place : ℕ) (short : tooLong (asks.Control type request value index) size lengths ≡ false)
       (e : Endpoint) (none-stored : e .work .stored ≡ 0) (packets : List ℕ) where
     abbrev v : Record
-    v = recordFor (asking (asks.Control type request value index) address size) (length lengths) id place
+    v = recordFor (withWhat given (asks.Control type request value index)) (length lengths) id place
 
     size-small : size ≤ 65535
     size-small =
@@ -110,7 +112,7 @@ module _ (type request value index address size : ℕ) (fits : typed (asks.Contr
         let field : size % 2 ^ 17 ≡ size = omega (arith, size-small) in
         rw (none-stored, none, more, word, field, setup-fields size (pick (eqb (bits 7 1 type) 1) 3 2), with-data (eqb (bits 7 1 type) 1))
 
-    control-asked : upcoming (required (asking (asks.Control type request value index) address size) (length lengths)) e v packets
+    control-asked : upcoming (required (withWhat given (asks.Control type request value index)) (length lengths)) e v packets
         ≡ controlTrbs type request value index address size (eqb (bits 7 1 type) 1)
     control-asked =
         ⊎-elim
@@ -121,35 +123,35 @@ module _ (type request value index address size : ℕ) (fits : typed (asks.Contr
 
 -- ---- bulk and interrupt
 
-module _ (incoming : Bool) (address size : ℕ) (lengths : List ℕ) (id place : ℕ) (e : Endpoint) (packets : List ℕ) where
-  normal-asked : (v : Record) → size ≤ 65536
-      → v ≡ recordFor (asking (asks.Bulk incoming) address size) (length lengths) id place ⊎ v ≡ recordFor (asking (asks.Interrupt incoming) address size) (length lengths) id place
-      → upcoming 1 e v packets ≡ normalTrbs address size
+module _ (incoming : Bool) (given : Request) (lengths : List ℕ) (id place : ℕ) (e : Endpoint) (packets : List ℕ) where
+  normal-asked : (v : Record) → given .length ≤ 65536
+      → v ≡ recordFor (withWhat given (asks.Bulk incoming)) (length lengths) id place ⊎ v ≡ recordFor (withWhat given (asks.Interrupt incoming)) (length lengths) id place
+      → upcoming 1 e v packets ≡ normalTrbs (given .address) (given .length)
   unfolding upcoming trbOf
-  normal-asked v small (inl q) = let field : size % 2 ^ 17 ≡ size = omega arith in rw (q, field)
-  normal-asked v small (inr q) = let field : size % 2 ^ 17 ≡ size = omega arith in rw (q, field)
+  normal-asked v small (inl q) = let field : given .length % 2 ^ 17 ≡ given .length = omega arith in rw (q, field)
+  normal-asked v small (inr q) = let field : given .length % 2 ^ 17 ≡ given .length = omega arith in rw (q, field)
 
-  bulk-asked : tooLong (asks.Bulk incoming) size lengths ≡ false
-      → upcoming 1 e (recordFor (asking (asks.Bulk incoming) address size) (length lengths) id place) packets ≡ normalTrbs address size
+  bulk-asked : tooLong (asks.Bulk incoming) (given .length) lengths ≡ false
+      → upcoming 1 e (recordFor (withWhat given (asks.Bulk incoming)) (length lengths) id place) packets ≡ normalTrbs (given .address) (given .length)
   bulk-asked short =
       normal-asked _
-      (⊎-elim (λ (h : 65536 < size). absurd (by-too-long-bulk incoming size lengths .not-so short h))
-      (λ (h : size ≤ 65536). h) (lt-or-le 65536 size))
+      (⊎-elim (λ (h : 65536 < given .length). absurd (by-too-long-bulk incoming (given .length) lengths .not-so short h))
+      (λ (h : given .length ≤ 65536). h) (lt-or-le 65536 (given .length)))
       (inl refl)
 
-  interrupt-asked : tooLong (asks.Interrupt incoming) size lengths ≡ false
-      → upcoming 1 e (recordFor (asking (asks.Interrupt incoming) address size) (length lengths) id place) packets ≡ normalTrbs address size
+  interrupt-asked : tooLong (asks.Interrupt incoming) (given .length) lengths ≡ false
+      → upcoming 1 e (recordFor (withWhat given (asks.Interrupt incoming)) (length lengths) id place) packets ≡ normalTrbs (given .address) (given .length)
   interrupt-asked short =
       normal-asked _
-      (⊎-elim (λ (h : 65536 < size). absurd (by-too-long-interrupt incoming size lengths .not-so short h))
-      (λ (h : size ≤ 65536). h) (lt-or-le 65536 size))
+      (⊎-elim (λ (h : 65536 < given .length). absurd (by-too-long-interrupt incoming (given .length) lengths .not-so short h))
+      (λ (h : given .length ≤ 65536). h) (lt-or-le 65536 (given .length)))
       (inr refl)
 
 -- ---- ISO
 
-module _ (incoming : Bool) (address size : ℕ) (lengths : List ℕ) (id place : ℕ) (packets : List ℕ) where
+module _ (incoming : Bool) (given : Request) (lengths : List ℕ) (id place : ℕ) (packets : List ℕ) where
   abbrev iso : Record
-  iso = recordFor (asking (asks.Isoch incoming) address size) (length lengths) id place
+  iso = recordFor (withWhat given (asks.Isoch incoming)) (length lengths) id place
 
   -- The packets from the next one on ask for ns, and there are no others behind them.
   record Asks (e : Endpoint) (ns : List ℕ) : Type 0 where
@@ -208,36 +210,36 @@ all-short (n ∷ ns) short k l = short k l
 
 -- An endpoint that has begun on the request in record r, under an id and from a place, with the request's packets written.
 module _ (lengths : List ℕ) (id place r : ℕ) (packets : List ℕ) (sized : length packets ≡ packetsSize) (within : r < recordCount) (e : Endpoint) (none-stored : e .work .stored ≡ 0) (number : e .work .number ≡ r) where
-  asked-by : (what : What) (address size : ℕ) → tooLong what size lengths ≡ false → typed what ≡ true → e .work .address ≡ stored address size
-      → upcoming (countFor what size (length lengths)) e (recordFor (asking what address size) (length lengths) id place)
-      (writePackets packets r what lengths) ≡ trbsFor (e .periodic) what address size lengths
-  asked-by (asks.Control type request value index) address size short fits at =
-      control-asked type request value index address size fits lengths id place short e none-stored
-      (writePackets packets r (asks.Control type request value index) lengths)
-  asked-by (asks.Bulk incoming) address size short fits at =
-      bulk-asked incoming address size lengths id place e (writePackets packets r (asks.Bulk incoming) lengths) short
-  asked-by (asks.Interrupt incoming) address size short fits at =
-      interrupt-asked incoming address size lengths id place e (writePackets packets r (asks.Interrupt incoming) lengths) short
-  asked-by (asks.Isoch incoming) address size short fits at =
-      let request : Request = asking (asks.Isoch incoming) address size in
-      let new : List ℕ = writePackets packets r (asks.Isoch incoming) lengths in
-      let ns = atLeastOne lengths in
-      ap (λ (n : ℕ). upcoming n e (recordFor request (length lengths) id place) new) (sym (at-least lengths))
-      ∙ iso-from incoming address size lengths id place new ns e
-      (record {
-        end = omega (arith, none-stored, at-least lengths, count-is request lengths id place short);
-        sizes = λ j l.
-            let z : e .work .stored + j ≡ j = omega arith in
-            rw (number, z) (ap (λ (p : Packet). p .requested) (packet-written packets r incoming size lengths sized within short j l));
-        short = all-short lengths (packet-short incoming size lengths short);
-      })
-      ∙ ap (λ (a : ℕ). isochTrbs incoming (e .periodic .packet) (e .periodic .burst) a ns) at
-
   pub asked-for : (request : Request) → tooLong (request .what) (request .length) lengths ≡ false → typed (request .what) ≡ true
       → e .work .address ≡ bufferOf request
       → upcoming (required request (length lengths)) e (recordFor request (length lengths) id place)
       (writePackets packets r (request .what) lengths) ≡ trbsOf (e .periodic) request lengths
-  asked-for request = asked-by (request .what) (request .address) (request .length)
+  asked-for given = by (given .what)
+    where
+      by : (what : What) → tooLong what (given .length) lengths ≡ false → typed what ≡ true → e .work .address ≡ bufferOf given
+          → upcoming (countFor what (given .length) (length lengths)) e (recordFor (withWhat given what) (length lengths) id place)
+          (writePackets packets r what lengths) ≡ trbsFor (e .periodic) what (given .address) (given .length) lengths
+      by (asks.Control type request value index) short fits at =
+          control-asked type request value index given fits lengths id place short e none-stored
+          (writePackets packets r (asks.Control type request value index) lengths)
+      by (asks.Bulk incoming) short fits at =
+          bulk-asked incoming given lengths id place e (writePackets packets r (asks.Bulk incoming) lengths) short
+      by (asks.Interrupt incoming) short fits at =
+          interrupt-asked incoming given lengths id place e (writePackets packets r (asks.Interrupt incoming) lengths) short
+      by (asks.Isoch incoming) short fits at =
+          let iso : Request = withWhat given (asks.Isoch incoming) in
+          let new : List ℕ = writePackets packets r (asks.Isoch incoming) lengths in
+          let ns = atLeastOne lengths in
+          ap (λ (n : ℕ). upcoming n e (recordFor iso (length lengths) id place) new) (sym (at-least lengths))
+          ∙ iso-from incoming given lengths id place new ns e
+          (record {
+            end = omega (arith, none-stored, at-least lengths, count-is iso lengths id place short);
+            sizes = λ j l.
+                let z : e .work .stored + j ≡ j = omega arith in
+                rw (number, z) (ap (λ (p : Packet). p .requested) (packet-written packets r incoming (given .length) lengths sized within short j l));
+            short = all-short lengths (packet-short incoming (given .length) lengths short);
+          })
+          ∙ ap (λ (a : ℕ). isochTrbs incoming (e .periodic .packet) (e .periodic .burst) a ns) at
 
 -- As many as the request takes.
 isoch-count : (incoming : Bool) (packet burst address : ℕ) (ns : List ℕ) → length (isochTrbs incoming packet burst address ns) ≡ length ns

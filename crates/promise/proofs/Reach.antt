@@ -28,8 +28,8 @@ act-reached w (cancels id) r = reached.cancelled r id
 act-reached w steps r = r
 
 pub run-reached : {w : World} → Run w → Reached (w .dock)
-run-reached (made ring finished records packets slots base mask slot dci done) =
-    reached.made ring finished records packets slots base mask slot dci done
+run-reached (made ring finished records packets shape who done) =
+    reached.made ring finished records packets shape who done
 run-reached (andThen {w} r m allowed) = act-reached w m (run-reached r)
 
 pub run-sound : {w : World} → Run w → Sound (w .dock)
@@ -45,5 +45,5 @@ act-kept w (cancels id) h k allowed = cancelled-kept w id k
 act-kept w steps h k allowed = stepped-kept w k
 
 pub run-kept : {w : World} → Run w → Kept w
-run-kept (made ring finished records packets slots base mask slot dci done) = made-kept ring finished records packets slots base mask slot dci done
+run-kept (made ring finished records packets shape who done) = made-kept ring finished records packets shape who done
 run-kept (andThen {w} r m allowed) = act-kept w m (run-sound r) (run-kept r) allowed

@@ -24,7 +24,7 @@ use Rattle.dock.specs.declared.Request.{Request}
 use Rattle.dock.specs.declared.What.{What}
 use Rattle.dock.specs.declared.What.the-variants as asks
 use Rattle.dock.specs.Fit.{flies}
-use Rattle.dock.specs.Requests.{kindOf, required, recordFor}
+use Rattle.dock.specs.Requests.{kindOf, required, withWhat, recordFor}
 use Rattle.dock.specs.Start.{startNo, recordTaken, idTaken, charged, writePackets, startedEndpoint, startedRecords}
 use Rattle.dock.specs.Stores.{trbCount}
 use Rattle.dock.proofs.BooksLaws.{by-flies}
@@ -57,28 +57,28 @@ deferred (asks.Isoch incoming) = false
 
 -- The count of its record goes by its kind.
 record-counts : (request : Request) (count id place : ℕ) → Counts (recordFor request count id place)
-record-counts request count id place = counts (request .what) (request .address) (request .length)
+record-counts request count id place = counts (request .what)
   where
-    counts : (what : What) (address size : ℕ) → Counts (recordFor (record { what = what; address = address; length = size }) count id place)
-    counts (asks.Control type request value index) address size = record {
-      some = required-some (asks.Control type request value index) size count;
+    counts : (what : What) → Counts (recordFor (withWhat request what) count id place)
+    counts (asks.Control type code value index) = record {
+      some = required-some (asks.Control type code value index) (request .length) count;
       of-control = λ q. refl;
       of-bulk = λ q. absurd (omega arith);
       of-interrupt = λ q. absurd (omega arith);
     }
-    counts (asks.Bulk incoming) address size = record {
+    counts (asks.Bulk incoming) = record {
       some = omega arith;
       of-control = λ q. absurd (omega arith);
       of-bulk = λ q. refl;
       of-interrupt = λ q. absurd (omega arith);
     }
-    counts (asks.Interrupt incoming) address size = record {
+    counts (asks.Interrupt incoming) = record {
       some = omega arith;
       of-control = λ q. absurd (omega arith);
       of-bulk = λ q. absurd (omega arith);
       of-interrupt = λ q. refl;
     }
-    counts (asks.Isoch incoming) address size = record {
+    counts (asks.Isoch incoming) = record {
       some = omega arith;
       of-control = λ q. absurd (omega arith);
       of-bulk = λ q. absurd (omega arith);

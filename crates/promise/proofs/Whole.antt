@@ -15,8 +15,10 @@ use Rattle.base.proofs.Decide.{if-so, both, by-eqb}
 use Rattle.ids.proofs.AnyLaws.{true-or-false}
 use Rattle.dock.specs.declared.Changed.{Changed}
 use Rattle.dock.specs.declared.Endpoint.{Endpoint}
+use Rattle.dock.specs.declared.Identity.{Identity}
 use Rattle.dock.specs.declared.ReclaimedOne.{ReclaimedOne}
 use Rattle.dock.specs.declared.Request.{Request}
+use Rattle.dock.specs.declared.Shape.{Shape}
 use Rattle.dock.specs.declared.Stored.{Stored}
 use Rattle.dock.specs.declared.StoredAll.{StoredAll}
 use Rattle.dock.specs.declared.StoredOne.{StoredOne}
@@ -233,7 +235,7 @@ submitted-run w request lengths pauses fits r =
     storing-run (mostStores request (length lengths)) pauses (started w request lengths) (run.andThen r (starts request lengths) fits)
 
 pub whole-run : {w : World} → WholeRun w → Run w
-whole-run (made ring finished records packets slots base mask slot dci done) = run.made ring finished records packets slots base mask slot dci done
+whole-run (made ring finished records packets shape who done) = run.made ring finished records packets shape who done
 whole-run (andThen r m other allowed) = run.andThen (whole-run r) m allowed
 whole-run (andSubmits {w} r request lengths pauses fits) = submitted-run w request lengths pauses fits (whole-run r)
 
@@ -267,15 +269,15 @@ between-rests w (reclaims id) other free = ap (λ (x : Work). x .busy) (reclaim-
 between-rests w (cancels id) other free = free
 between-rests w steps other free = free
 
-made-rests : (ring finished records packets : List ℕ) (slots base mask slot dci : ℕ)
-    → madeOf ring finished records packets slots base mask slot dci .endpoint .work .busy ≡ false
+made-rests : (ring finished records packets : List ℕ) (shape : Shape) (who : Identity)
+    → madeOf ring finished records packets shape who .endpoint .work .busy ≡ false
 unfolding make
-made-rests ring finished records packets slots base mask slot dci =
+made-rests ring finished records packets shape who =
     picked (λ (t : Changed × List ℕ × List ℕ × List ℕ × List ℕ). t .0 .endpoint .work .busy ≡ false)
-    (eqb (makeNo (length ring) (length finished) (length records) (length packets) slots base slot dci) 0) _ _ (λ t. refl) (λ t. refl)
+    (eqb (makeNo (length ring) (length finished) (length records) (length packets) shape who) 0) _ _ (λ t. refl) (λ t. refl)
 
 pub whole-rests : {w : World} → WholeRun w → w .dock .endpoint .work .busy ≡ false
-whole-rests (made ring finished records packets slots base mask slot dci done) = made-rests ring finished records packets slots base mask slot dci
+whole-rests (made ring finished records packets shape who done) = made-rests ring finished records packets shape who
 whole-rests (andThen {w} r m other allowed) = between-rests w m other (whole-rests r)
 whole-rests (andSubmits {w} r request lengths pauses fits) = submitted-rests w (run-sound (whole-run r)) request lengths pauses (whole-rests r)
 

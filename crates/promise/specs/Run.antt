@@ -16,8 +16,10 @@ use Rattle.trb.specs.declared.Words.{Words}
 use Rattle.ring.specs.Ring.{slotAddress}
 use Rattle.records.specs.Records.{recordAt}
 use Rattle.records.specs.declared.Record.{Record}
+use Rattle.dock.specs.declared.Identity.{Identity}
 use Rattle.dock.specs.declared.Outcome.the-variants.{Done}
 use Rattle.dock.specs.declared.Request.{Request}
+use Rattle.dock.specs.declared.Shape.{Shape}
 use Rattle.dock.specs.HandOver.{handOverNo}
 use Rattle.dock.specs.Make.{make}
 use Rattle.dock.specs.Reclaim.{codeOf}
@@ -145,15 +147,15 @@ may w steps = true
 abbrev pub fromMaking : State → World
 fromMaking d = record { dock = d; controller = outset; consumed = []; trbs = []; first = λ r. 0; heard = 0 }
 
-abbrev pub madeOf : List ℕ → List ℕ → List ℕ → List ℕ → ℕ → ℕ → ℕ → ℕ → ℕ → State
-madeOf ring finished records packets slots base mask slot dci =
-    let m = make ring finished records packets slots base mask slot dci in
+abbrev pub madeOf : List ℕ → List ℕ → List ℕ → List ℕ → Shape → Identity → State
+madeOf ring finished records packets shape who =
+    let m = make ring finished records packets shape who in
     stateOf (m .0 .endpoint) (m .1) (m .2) (m .3) (m .4)
 
 pub data Run : World → Type 0 where
-  made : (ring finished records packets : List ℕ) (slots base mask slot dci : ℕ)
-      → make ring finished records packets slots base mask slot dci .0 .answer ≡ Done
-      → Run (fromMaking (madeOf ring finished records packets slots base mask slot dci))
+  made : (ring finished records packets : List ℕ) (shape : Shape) (who : Identity)
+      → make ring finished records packets shape who .0 .answer ≡ Done
+      → Run (fromMaking (madeOf ring finished records packets shape who))
   andThen : {w : World} → Run w → (m : Move) → may w m ≡ true → Run (act w m)
 
 -- Many steps of the controller.

@@ -4,8 +4,10 @@ use mathlib.Core.Bool.{Bool, true, false}
 use mathlib.Core.List.{List}
 use mathlib.Core.Path.{_≡_}
 use lib.ListN.{length}
+use Rattle.dock.specs.declared.Identity.{Identity}
 use Rattle.dock.specs.declared.Outcome.the-variants.{Done}
 use Rattle.dock.specs.declared.Request.{Request}
+use Rattle.dock.specs.declared.Shape.{Shape}
 use Rattle.dock.specs.Make.{make}
 use Rattle.dock.specs.Submit.{mostStores}
 use Rattle.promise.specs.Requested.{typed}
@@ -31,9 +33,9 @@ between (cancels id) = true
 between steps = true
 
 pub data WholeRun : World → Type 0 where
-  made : (ring finished records packets : List ℕ) (slots base mask slot dci : ℕ)
-      → make ring finished records packets slots base mask slot dci .0 .answer ≡ Done
-      → WholeRun (fromMaking (madeOf ring finished records packets slots base mask slot dci))
+  made : (ring finished records packets : List ℕ) (shape : Shape) (who : Identity)
+      → make ring finished records packets shape who .0 .answer ≡ Done
+      → WholeRun (fromMaking (madeOf ring finished records packets shape who))
   andThen : {w : World} → WholeRun w → (m : Move) → between m ≡ true → may w m ≡ true → WholeRun (act w m)
   andSubmits : {w : World} → WholeRun w → (request : Request) (lengths : List ℕ) (pauses : ℕ → ℕ) → typed (request .what) ≡ true
       → WholeRun (submitted w request lengths pauses)

@@ -23,7 +23,7 @@ use Rattle.dock.specs.declared.Stored.the-variants as stored
 use Rattle.dock.specs.declared.StoredAll.{StoredAll}
 use Rattle.dock.specs.declared.Submitted.the-variants as submitted
 use Rattle.dock.specs.Limits.{ringSize}
-use Rattle.dock.specs.Requests.{required, recordFor}
+use Rattle.dock.specs.Requests.{required, withWhat, recordFor}
 use Rattle.dock.specs.Start.{startNo, tooLong, idTaken, recordTaken, atLeastOne, startedEndpoint, startedRecords, writePackets}
 use Rattle.dock.specs.State.{moved}
 use Rattle.dock.specs.Store.{store, worked}
@@ -106,10 +106,6 @@ module _ (e : Endpoint) (v : Record) (asked ring finished : List ℕ) where
 
 -- ---- by the kind
 
--- A request, from its parts.
-abbrev asking : What → ℕ → ℕ → Request
-asking what address size = record { what = what; address = address; length = size }
-
 module _ (e : Endpoint) (records packets : List ℕ) (lengths ring finished : List ℕ) where
   abbrev begunWith : Request → Endpoint
   begunWith request = startedEndpoint e records request lengths
@@ -132,38 +128,38 @@ module _ (e : Endpoint) (records packets : List ℕ) (lengths ring finished : Li
       joinedBy request (closed (kept request) (strides (required request (length lengths)) (begunWith request) (kept request) (asked request) ring finished))
       ≡ sentBy (begunWith request) (kept request) ring finished packets lengths
 
-  bulk-alike : (incoming : Bool) (address size : ℕ) → Alike (asking (Bulk incoming) address size)
+  bulk-alike : (incoming : Bool) (given : Request) → Alike (withWhat given (Bulk incoming))
   unfolding startedEndpoint writePackets strides closed trbOf sentBy plainPut
-  bulk-alike incoming address size = refl
+  bulk-alike incoming given = refl
 
-  interrupt-alike : (incoming : Bool) (address size : ℕ) → Alike (asking (Interrupt incoming) address size)
+  interrupt-alike : (incoming : Bool) (given : Request) → Alike (withWhat given (Interrupt incoming))
   unfolding startedEndpoint writePackets strides closed trbOf sentBy plainPut
-  interrupt-alike incoming address size = refl
+  interrupt-alike incoming given = refl
 
   -- A control request without data is setup and status, one with data has three stages.
-  module _ (type request value index address size : ℕ) where
+  module _ (type request value index : ℕ) (given : Request) where
     abbrev setup : Request
-    setup = asking (Control type request value index) address size
+    setup = withWhat given (Control type request value index)
 
-    two-alike : size ≡ 0 → Alike setup
+    two-alike : given .length ≡ 0 → Alike setup
     unfolding startedEndpoint writePackets strides closed trbOf sentBy plainPut controlPut stagesPut
     two-alike none = rw none refl
 
-    three-alike : (size ≡ 0 → ⊥) → Alike setup
+    three-alike : (given .length ≡ 0 → ⊥) → Alike setup
     unfolding startedEndpoint writePackets closed sentBy plainPut controlPut
     three-alike some =
         ap (λ (n : ℕ). joinedBy setup (closed (kept setup) (strides n (begunWith setup) (kept setup) (asked setup) ring finished)))
-        (rw (ne-eqb size 0 some) refl)
+        (rw (ne-eqb (given .length) 0 some) refl)
         ∙ ap (λ (x : Endpoint × List ℕ × List ℕ). joinedBy setup (closed (kept setup) x))
         (three-strides (begunWith setup) (kept setup) (asked setup) ring finished refl refl some)
 
     control-alike : Alike setup
-    control-alike = ⊎-elim two-alike three-alike (same-or-not size 0)
+    control-alike = ⊎-elim two-alike three-alike (same-or-not (given .length) 0)
 
-  module _ (incoming : Bool) (address size : ℕ) (sized : length packets ≡ 4096) (below : recordTaken e < 64)
-      (short : tooLong (Isoch incoming) size lengths ≡ false) where
+  module _ (incoming : Bool) (given : Request) (sized : length packets ≡ 4096) (below : recordTaken e < 64)
+      (short : tooLong (Isoch incoming) (given .length) lengths ≡ false) where
     abbrev q : Request
-    q = asking (Isoch incoming) address size
+    q = withWhat given (Isoch incoming)
 
     abbrev b : Endpoint
     b = begunWith q
@@ -177,7 +173,7 @@ module _ (e : Endpoint) (records packets : List ℕ) (lengths ring finished : Li
 
     asks : (k : ℕ) → k < length (atLeastOne lengths) → packetAt (asked q) (b .work .number) k .requested ≡ getD (atLeastOne lengths) k 0
     unfolding startedEndpoint
-    asks k l = ap (λ (p : Packet). p .requested) (packet-written packets (recordTaken e) incoming size lengths sized below short k l)
+    asks k l = ap (λ (p : Packet). p .requested) (packet-written packets (recordTaken e) incoming (given .length) lengths sized below short k l)
 
     isoch-alike : Alike q
     unfolding startedEndpoint writePackets closed sentBy sentIsoch
@@ -187,12 +183,12 @@ module _ (e : Endpoint) (records packets : List ℕ) (lengths ring finished : Li
         ∙ ap (λ (x : Endpoint × List ℕ × List ℕ). joinedBy q (closed (kept q) x))
         (packets-stride b (kept q) (asked q) (atLeastOne lengths) refl counted asks (length (atLeastOne lengths)) 0 (penOf b) ring finished (omega arith))
 
-  alike : (what : What) (address size : ℕ) → length packets ≡ 4096 → recordTaken e < 64 → tooLong what size lengths ≡ false
-      → Alike (asking what address size)
-  alike (Control type request value index) address size sized below short = control-alike type request value index address size
-  alike (Bulk incoming) address size sized below short = bulk-alike incoming address size
-  alike (Interrupt incoming) address size sized below short = interrupt-alike incoming address size
-  alike (Isoch incoming) address size sized below short = isoch-alike incoming address size sized below short
+  alike : (what : What) (given : Request) → length packets ≡ 4096 → recordTaken e < 64 → tooLong what (given .length) lengths ≡ false
+      → Alike (withWhat given what)
+  alike (Control type request value index) given sized below short = control-alike type request value index given
+  alike (Bulk incoming) given sized below short = bulk-alike incoming given
+  alike (Interrupt incoming) given sized below short = interrupt-alike incoming given
+  alike (Isoch incoming) given sized below short = isoch-alike incoming given sized below short
 
 -- ---- the whole
 
@@ -250,4 +246,4 @@ module _ (e : Endpoint) (ring finished records packets : List ℕ) (request : Re
   sent-is =
       let s = start-admitted e records packets request lengths passed in
       ap (joinedBy e records packets lengths ring finished request) same
-      ∙ alike e records packets lengths ring finished (request .what) (request .address) (request .length) (s .packets-size) (record-below e records packets request lengths passed) (s .short)
+      ∙ alike e records packets lengths ring finished (request .what) request (s .packets-size) (record-below e records packets request lengths passed) (s .short)

@@ -6,7 +6,9 @@ use lib.Dec.{eqb, leb, ltb}
 use lib.ListN.{length, getD, take, drop}
 use Rattle.base.specs.First.{pick}
 use Rattle.trb.specs.declared.Words.{Words}
+use Rattle.dock.specs.declared.Identity.{Identity}
 use Rattle.dock.specs.declared.Request.{Request}
+use Rattle.dock.specs.declared.Shape.{Shape}
 use Rattle.dock.specs.declared.What.{What}
 use Rattle.dock.specs.declared.What.the-variants.{Control, Bulk, Interrupt, Isoch}
 use Rattle.words.specs.Words.{ringWord, controlWord, isoWord, interruptWord}
@@ -28,6 +30,14 @@ word v = v % 2 ^ 32
 
 abbrev pub flagged : ℕ → Bool
 flagged v = eqb v 1
+
+-- A `ring` line has slots, base, mask, slot id and dci: the ring's numbers,
+unfoldable pub shapeOf : List ℕ → Shape
+shapeOf values = record { slots = value values 0; base = value values 1 }
+
+-- and who the endpoint is.
+unfoldable pub identityOf : List ℕ → Identity
+identityOf values = record { slot = byte (value values 3); dci = byte (value values 4); mask = value values 2 }
 
 -- "`control` gives request type, request, value, index, address, length; `bulk` in, address, length; `iso` the same, then the packet lengths."
 unfoldable pub whatOf : ℕ → List ℕ → What

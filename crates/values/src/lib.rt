@@ -3,9 +3,11 @@
 ghost use mathlib.Core.Path.{_≡_};
 ghost use Prim.Native.Nat.{_%_, _<_};
 ghost use lib.ListN.{length};
-ghost use Rattle.values.specs.Values.{value, byte, half, word, whatOf, addressAt, requestOf, lengthsOf, eventOf, openingOf};
+ghost use Rattle.values.specs.Values.{value, byte, half, word, shapeOf, identityOf, whatOf, addressAt, requestOf, lengthsOf, eventOf, openingOf};
 use dock::Endpoint;
+use dock::Identity;
 use dock::Request;
+use dock::Shape;
 use dock::What;
 use lines::Reading;
 use trb::Words;
@@ -58,6 +60,27 @@ pub fn word(v: u64) -> u32
     ensures { λ r. ⌜ r ≡ word v ⌝ }
 {
     (v % 0x1_0000_0000) as u32
+}
+
+// A `ring` line has slots, base, mask, slot id and dci: the ring's numbers,
+pub fn shape_of(values: &[u64]) -> Shape
+    ensures { λ r. ⌜ r ≡ shapeOf (now (values .entry)) ⌝ }
+{
+    Shape {
+        slots: value(values, 0) as usize,
+        base: value(values, 1),
+    }
+}
+
+// and who the endpoint is.
+pub fn identity_of(values: &[u64]) -> Identity
+    ensures { λ r. ⌜ r ≡ identityOf (now (values .entry)) ⌝ }
+{
+    Identity {
+        slot: byte(value(values, 3)),
+        dci: byte(value(values, 4)),
+        mask: value(values, 2),
+    }
 }
 
 // What a word and its values ask for.

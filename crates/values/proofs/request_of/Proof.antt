@@ -1,5 +1,4 @@
 -- `request_of` meets its contract. Assumes nothing.
-use native.Mathlib.Omega.{arith}
 use borrow.Author.Needs.{needs}
 use Rattle.values.specs.Values.{requestOf}
 use Rattle.values.proofs.request_of.Statement.{statement}
