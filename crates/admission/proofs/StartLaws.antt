@@ -1,8 +1,8 @@
--- The start of a submission: its tests as facts, and `dock`'s definitions by the number of lengths. Assumes nothing.
+-- The start of a submission: its tests as facts. Assumes nothing.
 use Prim.Native.Nat.{ℕ, _+_, _-_, _≤_, _<_}
 use mathlib.Core.Bool.{Bool, true, false, _||_, and-eq-true-iff}
 use mathlib.Core.List.{List}
-use mathlib.Core.Path.{_≡_, refl, sym, ap, subst}
+use mathlib.Core.Path.{_≡_, refl, sym, subst}
 use native.Mathlib.Omega.{arith}
 use borrow.Author.Tests.{ltb-false, eqb-true, not-false}
 use lib.Dec.{eqb, ltb}
@@ -16,33 +16,18 @@ use Rattle.mask.proofs.OccupancyLaws.{lowest-tells}
 use Rattle.packets.specs.Packets.{packetCount}
 use Rattle.dock.specs.Fit.{fitsWith}
 use Rattle.dock.specs.Limits.{packetsSize}
-use Rattle.dock.specs.Requests.{required, recordFor}
+use Rattle.dock.specs.Requests.{givenOf, required}
 use Rattle.dock.specs.Start.{crowded, tooLong, startTests, startNo}
 use Rattle.dock.specs.declared.Endpoint.{Endpoint}
 use Rattle.dock.specs.declared.Request.{Request}
-use Rattle.dock.specs.declared.Request.the-variants.{Control, Bulk, Interrupt, Isoch}
+use Rattle.dock.specs.declared.What.{What}
+use Rattle.dock.specs.declared.What.the-variants.{Control, Bulk, Interrupt, Isoch}
 use Rattle.checks.proofs.Laws.{fit, fit-with}
 use Rattle.admission.specs.Admitted.{Admitted}
-use Rattle.requests.specs.Counts.{givenBy, requiredBy, recordBy}
 
 -- The record that is found is one of the table's.
 pub found-within : (o : Occupancy) {i : ℕ} → At i ≡ lowest o → i < recordCount
 found-within o e = subst (Tells o) (sym e) (lowest-tells o) .within
-
--- ---- by the number of lengths
-
-pub required-by : (request : Request) (lengths : List ℕ) → required request lengths ≡ requiredBy request (length lengths)
-required-by (Control kind request value index address size) lengths = refl
-required-by (Bulk incoming address size) lengths = refl
-required-by (Interrupt incoming address size) lengths = refl
-required-by (Isoch incoming address size) lengths = refl
-
-pub record-by : (request : Request) (lengths : List ℕ) (id place : ℕ) → recordFor request lengths id place ≡ recordBy request (length lengths) id place
-unfolding recordBy
-record-by (Control kind request value index address size) lengths id place = refl
-record-by (Bulk incoming address size) lengths id place = refl
-record-by (Interrupt incoming address size) lengths id place = refl
-record-by (Isoch incoming address size) lengths id place = refl
 
 -- ---- where no test holds
 
@@ -50,12 +35,12 @@ neither : (a b : Bool) → (a || b) ≡ false → a ≡ false
 neither true b e = e
 neither false b e = refl
 
-few : (request : Request) (lengths : List ℕ) → tooLong request lengths ≡ false → givenBy request (length lengths) ≤ packetCount
+few : (what : What) (size : ℕ) (lengths : List ℕ) → tooLong what size lengths ≡ false → givenOf what (length lengths) ≤ packetCount
 unfolding tooLong
-few (Control kind request value index address size) lengths t = omega arith
-few (Bulk incoming address size) lengths t = omega arith
-few (Interrupt incoming address size) lengths t = omega arith
-few (Isoch incoming address size) lengths t = ltb-false _ _ (neither (ltb packetCount (length lengths)) _ (neither _ _ t))
+few (Control type request value index) size lengths t = omega arith
+few (Bulk incoming) size lengths t = omega arith
+few (Interrupt incoming) size lengths t = omega arith
+few (Isoch incoming) size lengths t = ltb-false _ _ (neither (ltb packetCount (length lengths)) _ (neither _ _ t))
 
 room : (slots outstanding more : ℕ) → slots ≤ 4096 → crowded slots outstanding more ≡ false → outstanding + more ≤ 4094
 unfolding crowded
@@ -75,12 +60,6 @@ admitted e records packets request lengths t =
       words = eqb-true _ _ (sizes .1);
       next = sound .next;
       room =
-          rw (sym (required-by request lengths))
-          (room (e .shape .slots) (e .account .outstanding) (required request lengths) (sound .limits .slots-most) (quiet ts 3 refl t (omega arith)));
-      few = few request lengths (quiet ts 4 refl t (omega arith));
+          room (e .shape .slots) (e .account .outstanding) (required request (length lengths)) (sound .limits .slots-most) (quiet ts 3 refl t (omega arith));
+      few = few (request .what) (request .length) lengths (quiet ts 4 refl t (omega arith));
     }
-
--- The test of a crowded ring, by the number of lengths.
-pub crowded-by : (slots outstanding : ℕ) (request : Request) (lengths : List ℕ)
-    → crowded slots outstanding (requiredBy request (length lengths)) ≡ crowded slots outstanding (required request lengths)
-crowded-by slots outstanding request lengths = ap (crowded slots outstanding) (sym (required-by request lengths))

@@ -3,13 +3,13 @@ use Prim.Native.Nat.{ℕ, _+_, _≤_, _<_}
 use mathlib.Core.Path.{_≡_}
 use Rattle.packets.specs.Packets.{packetCount}
 use Rattle.dock.specs.Limits.{recordsSize, packetsSize}
+use Rattle.dock.specs.Requests.{givenOf, required}
 use Rattle.dock.specs.declared.Endpoint.{Endpoint}
 use Rattle.dock.specs.declared.Request.{Request}
-use Rattle.requests.specs.Counts.{givenBy, requiredBy}
 
 pub record Admitted (e : Endpoint) (records packets : ℕ) (request : Request) (count : ℕ) : Type 0 where
   pub table : records ≡ recordsSize
   pub words : packets ≡ packetsSize
   pub next : 0 < e .account .next
-  pub room : e .account .outstanding + requiredBy request count ≤ 4094
-  pub few : givenBy request count ≤ packetCount
+  pub room : e .account .outstanding + required request count ≤ 4094
+  pub few : givenOf (request .what) count ≤ packetCount

@@ -8,11 +8,11 @@ ghost use Rattle.mask.specs.Occupancy.{lowest};
 ghost use Rattle.packets.specs.Packets.{packetCount};
 ghost use Rattle.dock.specs.Limits.{packetsSize};
 ghost use Rattle.dock.specs.Fit.{fitsWith};
-ghost use Rattle.dock.specs.Requests.{addressOf, lengthOf};
+ghost use Rattle.dock.specs.Requests.{required};
 ghost use Rattle.dock.specs.Start.{crowded, sumOf, someOver, tooLong, isFull, beyond, startNo};
-ghost use Rattle.requests.specs.Counts.{requiredBy};
 use dock::Endpoint;
 use dock::Request;
+use dock::What;
 use mask::Found;
 use mask::Occupancy;
 
@@ -43,7 +43,7 @@ fn most_of(slots: usize) -> u64
 
 // Row 2, capacity: "outstanding + required above L-2".
 fn is_crowded(e: Endpoint, request: Request, count: usize) -> bool
-    ensures { λ r. ⌜ r ≡ crowded (e .shape .slots) (e .account .outstanding) (requiredBy request count) ⌝ }
+    ensures { λ r. ⌜ r ≡ crowded (e .shape .slots) (e .account .outstanding) (required request count) ⌝ }
 {
     let most = most_of(e.shape.slots);
     let more = requests::required_of(request, count);
@@ -78,32 +78,19 @@ fn is_over(size: u64, lengths: &[u64]) -> bool
 
 // Row 3: "a data length limit above broken, over 64 packets, or sum over buffer".
 fn is_too_long(request: Request, lengths: &[u64]) -> bool
-    ensures { λ r. ⌜ r ≡ tooLong request (now (lengths .entry)) ⌝ }
+    ensures { λ r. ⌜ r ≡ tooLong (request .what) (request .length) (now (lengths .entry)) ⌝ }
 {
-    match request {
-        Request::Control {
-            kind: _,
+    let what = request.what;
+    match what {
+        What::Control {
+            request_type: _,
             request: _,
             value: _,
             index: _,
-            address: _,
-            length,
-        } => LONGEST_CONTROL < length,
-        Request::Bulk {
-            incoming: _,
-            address: _,
-            length,
-        } => LONGEST < length,
-        Request::Interrupt {
-            incoming: _,
-            address: _,
-            length,
-        } => LONGEST < length,
-        Request::Isoch {
-            incoming: _,
-            address: _,
-            length,
-        } => is_over(length, lengths),
+        } => LONGEST_CONTROL < request.length,
+        What::Bulk { incoming: _ } => LONGEST < request.length,
+        What::Interrupt { incoming: _ } => LONGEST < request.length,
+        What::Isoch { incoming: _ } => is_over(request.length, lengths),
     }
 }
 
@@ -120,17 +107,15 @@ fn is_full(occupancy: Occupancy) -> bool
 
 // Row 5: "length above 0 and (address > mask or address + length > mask), the sum exact".
 fn is_beyond(mask: u64, request: Request) -> bool
-    ensures { λ r. ⌜ r ≡ beyond mask (addressOf request) (lengthOf request) ⌝ }
+    ensures { λ r. ⌜ r ≡ beyond mask (request .address) (request .length) ⌝ }
 {
-    let address = requests::address_of(request);
-    let length = requests::length_of(request);
-    if length == 0 {
+    if request.length == 0 {
         return false;
     }
-    if mask < address {
+    if mask < request.address {
         return true;
     }
-    if mask - address < length {
+    if mask - request.address < request.length {
         return true;
     }
     false

@@ -14,11 +14,12 @@ use Rattle.records.specs.Records.{isoch}
 use Rattle.records.specs.declared.Record.{Record}
 use Rattle.dock.specs.declared.Endpoint.{Endpoint}
 use Rattle.dock.specs.declared.Request.{Request}
-use Rattle.dock.specs.declared.Request.the-variants.{Control, Bulk, Interrupt, Isoch}
+use Rattle.dock.specs.declared.What.{What}
+use Rattle.dock.specs.declared.What.the-variants.{Control, Bulk, Interrupt, Isoch}
 use Rattle.dock.specs.declared.StoredAll.{StoredAll}
 use Rattle.dock.specs.declared.Submitted.the-variants as submitted
 use Rattle.dock.specs.Limits.{ringSize}
-use Rattle.dock.specs.Requests.{recordFor}
+use Rattle.dock.specs.Requests.{kindOf, recordFor}
 use Rattle.dock.specs.Start.{startNo, tooLong, idTaken, startedEndpoint, startedRecords}
 use Rattle.dock.specs.Submit.{submit}
 use Rattle.dock.proofs.RefusalLaws.{submit-acts, submit-refuses, submit-misfits}
@@ -41,11 +42,11 @@ abbrev Left : Type 0
 Left = StoredAll × List ℕ × List ℕ × List ℕ × List ℕ
 
 -- Only an ISO request's lengths are walked.
-few : (request : Request) (lengths : List ℕ) (id place : ℕ) → tooLong request lengths ≡ false → recordFor request lengths id place .kind ≡ isoch → length lengths ≤ packetCount
-few (Control kind request value index address size) lengths id place short k = absurd (omega arith)
-few (Bulk incoming address size) lengths id place short k = absurd (omega arith)
-few (Interrupt incoming address size) lengths id place short k = absurd (omega arith)
-few (Isoch incoming address size) lengths id place short k = few-packets incoming address size lengths short
+few : (what : What) (size : ℕ) (lengths : List ℕ) → tooLong what size lengths ≡ false → kindOf what ≡ isoch → length lengths ≤ packetCount
+few (Control type request value index) size lengths short k = absurd (omega arith)
+few (Bulk incoming) size lengths short k = absurd (omega arith)
+few (Interrupt incoming) size lengths short k = absurd (omega arith)
+few (Isoch incoming) size lengths short k = few-packets incoming size lengths short
 
 module _ (e : Endpoint) (ring finished records packets : List ℕ) (request : Request) (lengths : List ℕ) where
   abbrev number : ℕ
@@ -99,7 +100,7 @@ module _ (e : Endpoint) (ring finished records packets : List ℕ) (request : Re
     begunNow = startedEndpoint e records request lengths
 
     abbrev held : Record
-    held = recordFor request lengths (idTaken e records) (e .at .place)
+    held = recordFor request (length lengths) (idTaken e records) (e .at .place)
 
     now-sendable : Sendable begunNow (length ring) (length finished) (length packets)
     unfolding startedEndpoint
@@ -130,7 +131,7 @@ module _ (e : Endpoint) (ring finished records packets : List ℕ) (request : Re
       pub sendable : Sendable (b .endpoint) (length ring) (length finished) (length packets) × (b .kept .kind ≡ isoch → length lengths ≤ packetCount)
       sendable = (
         subst (λ (x : Endpoint). Sendable x (length ring) (length finished) (length packets)) (sym begun-is) now-sendable,
-        λ k. few request lengths (idTaken e records) (e .at .place) (start-admitted e records packets request lengths passed .short) (sym (ap (λ (v : Record). v .kind) held-is) ∙ k),
+        λ k. few (request .what) (request .length) lengths (start-admitted e records packets request lengths passed .short) (sym (ap (λ (v : Record). v .kind) held-is) ∙ k),
       )
 
       abbrev withRecords : List ℕ → Sent → Left

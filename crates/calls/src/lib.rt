@@ -1,7 +1,7 @@
 // The calls that a line makes, each with what it writes.
 ghost use mathlib.Core.Path.{_≡_};
 ghost use Rattle.dock.specs.Make.{make};
-ghost use Rattle.values.specs.Values.{value, byte, half};
+ghost use Rattle.values.specs.Values.{shapeOf, identityOf};
 ghost use Rattle.calls.specs.Calls.{configured, ended, stopped, resumed, pointed, reset, handed, cancelled, retired, reclaimed, begun};
 ghost use Rattle.calls.specs.Calls.{goesOn, storedOne, stores, asked, submitted};
 use dock::Changed;
@@ -27,23 +27,15 @@ pub fn made(
     packets: &mut [u64],
     values: &[u64],
 ) -> Changed
-    ensures { λ r. ⌜ (r, now (ring .exit), now (finished .exit), now (records .exit), now (packets .exit)) ≡ make (now (ring .entry)) (now (finished .entry)) (now (records .entry)) (now (packets .entry)) (value (now (values .entry)) 0) (value (now (values .entry)) 1) (value (now (values .entry)) 2) (byte (value (now (values .entry)) 3)) (byte (value (now (values .entry)) 4)) ⌝ }
+    ensures { λ r. ⌜ (r, now (ring .exit), now (finished .exit), now (records .exit), now (packets .exit)) ≡ make (now (ring .entry)) (now (finished .entry)) (now (records .entry)) (now (packets .entry)) (shapeOf (now (values .entry))) (identityOf (now (values .entry))) ⌝ }
 {
-    let slots = values::value(values, 0);
-    let base = values::value(values, 1);
-    let mask = values::value(values, 2);
-    let slot = values::byte(values::value(values, 3));
-    let dci = values::byte(values::value(values, 4));
     making::make::make(
         ring,
         finished,
         records,
         packets,
-        slots as usize,
-        base,
-        mask,
-        slot,
-        dci,
+        values::shape_of(values),
+        values::identity_of(values),
     )
 }
 

@@ -36,7 +36,7 @@ places e here first = record {
 
 -- What `fits` tells of an endpoint.
 pub record Fit (e : Endpoint) : Type 0 where
-  pub limits : Limits (e .shape .slots) (e .shape .base) (e .who .slot) (e .who .dci)
+  pub limits : Limits (e .shape) (e .who)
   pub places : Places e
   pub next : 0 < e .account .next
 

@@ -42,7 +42,7 @@ pub fn places_fit(e: Endpoint) -> bool
 pub fn fits(e: Endpoint) -> bool
     ensures { λ r. ⌜ r ≡ fits e ⌝ }
 {
-    if !limits::limits_hold(e.shape.slots, e.shape.base, e.who.slot, e.who.dci) {
+    if !limits::limits_hold(e.shape, e.who) {
         return false;
     }
     if !places_fit(e) {

@@ -14,8 +14,8 @@ use Rattle.ids.specs.Free.{recordCount}
 use Rattle.packets.specs.Packets.{packetCount, packetIndex, packetOf, packetWord, packetAt}
 use Rattle.packets.specs.declared.Packet.{Packet}
 use Rattle.packets.proofs.PacketLaws.{packet-reads}
-use Rattle.dock.specs.declared.Request.{Request}
-use Rattle.dock.specs.declared.Request.the-variants.{Control, Bulk, Interrupt, Isoch}
+use Rattle.dock.specs.declared.What.{What}
+use Rattle.dock.specs.declared.What.the-variants.{Control, Bulk, Interrupt, Isoch}
 use Rattle.dock.specs.Limits.{packetsSize}
 use Rattle.dock.specs.Start.{tooLong, atLeastOne, writePackets}
 use Rattle.dock.proofs.TestLaws.{by-too-long-isoch}
@@ -33,18 +33,18 @@ some-packets : (ns : List ℕ) → length ns ≤ packetCount → length (atLeast
 some-packets [] h = omega arith
 some-packets (n ∷ ns) h = h
 
-module _ (incoming : Bool) (address size : ℕ) (lengths : List ℕ) (short : tooLong (Isoch incoming address size) lengths ≡ false) where
+module _ (incoming : Bool) (size : ℕ) (lengths : List ℕ) (short : tooLong (Isoch incoming) size lengths ≡ false) where
   pub few-packets : length lengths ≤ 64
   few-packets =
       ⊎-elim
-      (λ (h : 64 < length lengths). absurd (by-too-long-isoch incoming address size lengths .not-so short (inl (inl h))))
+      (λ (h : 64 < length lengths). absurd (by-too-long-isoch incoming size lengths .not-so short (inl (inl h))))
       (λ (h : length lengths ≤ 64). h)
       (lt-or-le 64 (length lengths))
 
   pub packet-short : (k : ℕ) → k < length lengths → getD lengths k 0 ≤ 65536
   packet-short k l =
       ⊎-elim
-      (λ (h : 65536 < getD lengths k 0). absurd (by-too-long-isoch incoming address size lengths .not-so short (inl (inr (k, l, h)))))
+      (λ (h : 65536 < getD lengths k 0). absurd (by-too-long-isoch incoming size lengths .not-so short (inl (inr (k, l, h)))))
       (λ (h : getD lengths k 0 ≤ 65536). h)
       (lt-or-le 65536 (getD lengths k 0))
 
@@ -53,28 +53,28 @@ one-short [] zero short l = omega arith
 one-short [] (suc k) short l = absurd (omega arith)
 one-short (n ∷ ns) k short l = short k l
 
-module _ (packets : List ℕ) (r : ℕ) (incoming : Bool) (address size : ℕ) (lengths : List ℕ)
-    (sized : length packets ≡ packetsSize) (below : r < recordCount) (short : tooLong (Isoch incoming address size) lengths ≡ false) where
+module _ (packets : List ℕ) (r : ℕ) (incoming : Bool) (size : ℕ) (lengths : List ℕ)
+    (sized : length packets ≡ packetsSize) (below : r < recordCount) (short : tooLong (Isoch incoming) size lengths ≡ false) where
   packet-room : packetCount * r + length (atLeastOne lengths) ≤ length packets
-  packet-room = omega (arith, some-packets lengths (few-packets incoming address size lengths short))
+  packet-room = omega (arith, some-packets lengths (few-packets incoming size lengths short))
 
   -- An ISO request's packet k asks for the k-th length, "no packets means one packet of length 0", and is unmarked.
   pub packet-written : (k : ℕ) → k < length (atLeastOne lengths)
-      → packetAt (writePackets packets r (Isoch incoming address size) lengths) r k ≡ asking (getD (atLeastOne lengths) k 0)
+      → packetAt (writePackets packets r (Isoch incoming) lengths) r k ≡ asking (getD (atLeastOne lengths) k 0)
   unfolding packetAt writePackets
   packet-written k l =
-      let fine = one-short lengths k (packet-short incoming address size lengths short) l in
+      let fine = one-short lengths k (packet-short incoming size lengths short) l in
       ap packetOf (pasted-same packets (packetCount * r) (atLeastOne lengths) packet-room k l)
       ∙ word-asks (getD (atLeastOne lengths) k 0) (omega arith)
 
   -- A packet of the record that the request does not have is as it was,
-  pub packet-behind : (k : ℕ) → length (atLeastOne lengths) ≤ k → packetAt (writePackets packets r (Isoch incoming address size) lengths) r k ≡ packetAt packets r k
+  pub packet-behind : (k : ℕ) → length (atLeastOne lengths) ≤ k → packetAt (writePackets packets r (Isoch incoming) lengths) r k ≡ packetAt packets r k
   unfolding packetAt writePackets
   packet-behind k l = ap packetOf (pasted-behind packets (packetCount * r) (atLeastOne lengths) packet-room (packetIndex r k) (omega arith))
 
   -- the packets of every other record are as they were,
   pub packets-kept : (s k : ℕ) → k < packetCount → (s ≡ r → ⊥)
-      → packetAt (writePackets packets r (Isoch incoming address size) lengths) s k ≡ packetAt packets s k
+      → packetAt (writePackets packets r (Isoch incoming) lengths) s k ≡ packetAt packets s k
   unfolding packetAt writePackets
   packets-kept s k l differs =
       ap packetOf
@@ -83,28 +83,27 @@ module _ (packets : List ℕ) (r : ℕ) (incoming : Bool) (address size : ℕ) (
       (⊎-elim
       (λ (h : s < r). pasted-before packets (packetCount * r) (atLeastOne lengths) packet-room (packetIndex s k) (omega arith))
       (λ (h : r < s). pasted-behind packets (packetCount * r) (atLeastOne lengths) packet-room (packetIndex s k)
-      (omega (arith, some-packets lengths (few-packets incoming address size lengths short)))))
+      (omega (arith, some-packets lengths (few-packets incoming size lengths short)))))
       (compared s r))
 
   -- and the table keeps its length.
-  pub packets-length : length (writePackets packets r (Isoch incoming address size) lengths) ≡ length packets
+  pub packets-length : length (writePackets packets r (Isoch incoming) lengths) ≡ length packets
   unfolding writePackets
   packets-length = length-paste packets (packetCount * r) (atLeastOne lengths) (length (atLeastOne lengths)) packet-room (omega arith)
 
 -- The same of any request: only an ISO request has packets.
 module _ (packets : List ℕ) (r : ℕ) (lengths : List ℕ) (sized : length packets ≡ packetsSize) (below : r < recordCount) where
-  pub others-packets-kept : (request : Request) → tooLong request lengths ≡ false → (s k : ℕ) → k < packetCount → (s ≡ r → ⊥)
-      → packetAt (writePackets packets r request lengths) s k ≡ packetAt packets s k
+  pub others-packets-kept : (what : What) (size : ℕ) → tooLong what size lengths ≡ false → (s k : ℕ) → k < packetCount → (s ≡ r → ⊥)
+      → packetAt (writePackets packets r what lengths) s k ≡ packetAt packets s k
   unfolding writePackets
-  others-packets-kept (Control kind request value index address size) short s k l differs = refl
-  others-packets-kept (Bulk incoming address size) short s k l differs = refl
-  others-packets-kept (Interrupt incoming address size) short s k l differs = refl
-  others-packets-kept (Isoch incoming address size) short s k l differs =
-      packets-kept packets r incoming address size lengths sized below short s k l differs
+  others-packets-kept (Control type request value index) size short s k l differs = refl
+  others-packets-kept (Bulk incoming) size short s k l differs = refl
+  others-packets-kept (Interrupt incoming) size short s k l differs = refl
+  others-packets-kept (Isoch incoming) size short s k l differs = packets-kept packets r incoming size lengths sized below short s k l differs
 
-  pub written-length : (request : Request) → tooLong request lengths ≡ false → length (writePackets packets r request lengths) ≡ length packets
+  pub written-length : (what : What) (size : ℕ) → tooLong what size lengths ≡ false → length (writePackets packets r what lengths) ≡ length packets
   unfolding writePackets
-  written-length (Control kind request value index address size) short = refl
-  written-length (Bulk incoming address size) short = refl
-  written-length (Interrupt incoming address size) short = refl
-  written-length (Isoch incoming address size) short = packets-length packets r incoming address size lengths sized below short
+  written-length (Control type request value index) size short = refl
+  written-length (Bulk incoming) size short = refl
+  written-length (Interrupt incoming) size short = refl
+  written-length (Isoch incoming) size short = packets-length packets r incoming size lengths sized below short

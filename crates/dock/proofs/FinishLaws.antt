@@ -236,19 +236,19 @@ module _ (e : Endpoint) (ring finished records packets : List ℕ) (request : Re
   written = startedRecords e records request lengths
 
   abbrev asked : List ℕ
-  asked = writePackets packets (recordTaken e) request lengths
+  asked = writePackets packets (recordTaken e) (request .what) lengths
 
   -- From a start that is admitted the stores end, with the id taken.
-  pub start-finishes : Ended begunWith ring finished (idTaken e records) (finish (mostStores request lengths) begunWith ring finished written asked)
+  pub start-finishes : Ended begunWith ring finished (idTaken e records) (finish (mostStores request (length lengths)) begunWith ring finished written asked)
   unfolding startedEndpoint
   start-finishes =
       let count = started-count e ring finished records packets request lengths passed ring-size finished-size in
       let s = start-admitted e records packets request lengths passed in
       let least = s .fits .endpoint .limits .slots-least in
       let room = s .room in
-      subst (λ (v : Record). Ended begunWith ring finished (v .id) (finish (mostStores request lengths) begunWith ring finished written asked))
+      subst (λ (v : Record). Ended begunWith ring finished (v .id) (finish (mostStores request (length lengths)) begunWith ring finished written asked))
       (record-written e records packets request lengths passed)
-      (finishes (mostStores request lengths) begunWith ring finished written asked
+      (finishes (mostStores request (length lengths)) begunWith ring finished written asked
       (started-storing e ring finished records packets request lengths passed ring-size finished-size)
       (omega arith)
       (inl (omega arith, omega arith)))
@@ -260,7 +260,7 @@ module _ (e : Endpoint) (ring finished records packets : List ℕ) (request : Re
   pub submit-done : (submit e ring finished records packets request lengths .0 .answer ≡ submitted.Done (idTaken e records) (e .who .dci))
       × (submit e ring finished records packets request lengths .0 .endpoint .work ≡ idle)
       × (submit e ring finished records packets request lengths .0 .endpoint .account
-      ≡ charged (e .account) (idTaken e records) (recordTaken e) (required request lengths))
+      ≡ charged (e .account) (idTaken e records) (recordTaken e) (required request (length lengths)))
   unfolding startedEndpoint
   submit-done =
       let whole = submit-acts e ring finished records packets request lengths fit passed in (

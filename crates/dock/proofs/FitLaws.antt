@@ -32,6 +32,7 @@ use Rattle.records.specs.declared.Record.{Record}
 use Rattle.dock.specs.declared.Changed.{Changed}
 use Rattle.dock.specs.declared.Endpoint.{Endpoint}
 use Rattle.dock.specs.declared.Flags.{Flags}
+use Rattle.dock.specs.declared.Identity.{Identity}
 use Rattle.dock.specs.declared.Outcome.{Outcome}
 use Rattle.dock.specs.declared.Outcome.the-variants.{Done}
 use Rattle.dock.specs.declared.Periodic.{Periodic}
@@ -39,13 +40,14 @@ use Rattle.dock.specs.declared.ResetBegun.{ResetBegun}
 use Rattle.dock.specs.declared.Shape.{Shape}
 use Rattle.dock.specs.declared.StoredOne.{StoredOne}
 use Rattle.dock.specs.declared.Request.{Request}
-use Rattle.dock.specs.declared.Request.the-variants.{Control, Bulk, Interrupt, Isoch}
+use Rattle.dock.specs.declared.What.{What}
+use Rattle.dock.specs.declared.What.the-variants.{Control, Bulk, Interrupt, Isoch}
 use Rattle.dock.specs.Limits.{limitsHold}
 use Rattle.dock.specs.Fit.{placesFit, fits, flies, strays, fitsWith, Next, theLink, theTrb, theSetup, none, nextOf, isNone}
 use Rattle.dock.specs.State.{fresh, idle, moved}
 use Rattle.dock.specs.Make.{makeNo, make, zeros}
 use Rattle.dock.specs.Configure.{plainTests, plainNo, configure}
-use Rattle.dock.specs.Requests.{recordFor, required}
+use Rattle.dock.specs.Requests.{countFor, withWhat, recordFor, required}
 use Rattle.dock.specs.Start.{crowded, tooLong, someOver, sumOf, startTests, startNo, recordTaken, idTaken, charged, writePackets, startedEndpoint, startedRecords, start}
 use Rattle.dock.specs.Stores.{trbCount}
 use Rattle.dock.specs.Store.{storeTests, storeNo, stepped, settled}
@@ -113,7 +115,7 @@ last-slot e p q =
     ))
     (either-true plain more (left-true (plain || more) started p))
 
-pub fits-true : (e : Endpoint) → limitsHold (e .shape .slots) (e .shape .base) (e .who .slot) (e .who .dci) ≡ true → placesFit e ≡ true
+pub fits-true : (e : Endpoint) → limitsHold (e .shape) (e .who) ≡ true → placesFit e ≡ true
     → 0 < e .account .next → fits e ≡ true
 fits-true e limits places above = if-so (by-fits e) ((limits, places), ne-eqb (e .account .next) 0 (λ (z : e .account .next ≡ 0). omega arith))
 
@@ -262,30 +264,30 @@ pub record Placed (s : State) : Type 0 where
       → (recordAt (s .records) r .place + 1 < s .endpoint .shape .slots) × (recordAt (s .records) r .count ≤ packetCount) × Measured (recordAt (s .records) r)
 
 -- Making.
-fresh-placed : (slots base mask slot dci : ℕ) (ring finished records packets : List ℕ) → 3 ≤ slots
-    → Placed (stateOf (fresh slots base mask slot dci) ring finished records packets)
-fresh-placed slots base mask slot dci ring finished records packets some = record {
-  placing = places-true (fresh slots base mask slot dci) (omega arith) (λ (q : 0 + 1 ≡ slots). absurd (omega arith)) (λ b. absurd (never-both b refl));
-  straight = strays-none (fresh slots base mask slot dci) records (λ b. absurd (never-both b refl));
+fresh-placed : (shape : Shape) (who : Identity) (ring finished records packets : List ℕ) → 3 ≤ shape .slots
+    → Placed (stateOf (fresh shape who) ring finished records packets)
+fresh-placed shape who ring finished records packets some = record {
+  placing = places-true (fresh shape who) (omega arith) (λ (q : 0 + 1 ≡ shape .slots). absurd (omega arith)) (λ b. absurd (never-both b refl));
+  straight = strays-none (fresh shape who) records (λ b. absurd (never-both b refl));
   capacity = omega arith;
   bounds = λ r l f. absurd (never-both (by-flies records masks.none r .so f .0) (none-free r));
 }
 
-make-placed : (ring finished records packets : List ℕ) (slots base mask slot dci : ℕ)
-    → make ring finished records packets slots base mask slot dci .0 .answer ≡ Done
-    → Placed (madeOf (make ring finished records packets slots base mask slot dci))
+make-placed : (ring finished records packets : List ℕ) (shape : Shape) (who : Identity)
+    → make ring finished records packets shape who .0 .answer ≡ Done
+    → Placed (madeOf (make ring finished records packets shape who))
 unfolding make
-make-placed ring finished records packets slots base mask slot dci =
+make-placed ring finished records packets shape who =
     picked
     (λ (t : Changed × List ℕ × List ℕ × List ℕ × List ℕ). t .0 .answer ≡ Done → Placed (madeOf t))
-    (eqb (makeNo (length ring) (length finished) (length records) (length packets) slots base slot dci) 0)
+    (eqb (makeNo (length ring) (length finished) (length records) (length packets) shape who) 0)
     _ _
-    (λ t d. fresh-placed slots base mask slot dci (zeros ring) (zeros finished) (zeros records) (zeros packets)
-    (slots-some _ (fresh-sound ring finished records packets slots base mask slot dci (eqb-true _ _ t))))
+    (λ t d. fresh-placed shape who (zeros ring) (zeros finished) (zeros records) (zeros packets)
+    (slots-some _ (fresh-sound ring finished records packets shape who (eqb-true _ _ t))))
     (λ t d. absurd (not-done _ d))
 
 made-placed : (s : State) → Made s → Placed s
-made-placed s (making ring finished records packets slots base mask slot dci done) = make-placed ring finished records packets slots base mask slot dci done
+made-placed s (making ring finished records packets shape who done) = make-placed ring finished records packets shape who done
 
 -- Calls that change only settings and flags, or tables that are no records.
 placed-parts : (s : State) (ring finished packets : List ℕ) (periodic : Periodic) (flags : Flags) → Placed s
@@ -331,21 +333,24 @@ hand-placed : (s : State) (event : Words) → Placed s → Placed (run.after s (
 hand-placed s event k = record { placing = k .placing; straight = k .straight; capacity = k .capacity; bounds = k .bounds }
 
 -- The start of a submission: its record has a TRB to store, and at most 64.
-count-some : (request : Request) (lengths : List ℕ) (id place : ℕ) → 0 < trbCount (recordFor request lengths id place)
+count-some : (request : Request) (count id place : ℕ) → 0 < trbCount (recordFor request count id place)
 unfolding trbCount
-count-some (Control kind request value index address size) lengths id place =
-    picked (λ (n : ℕ). 0 < n) (eqb size 0) 2 3 (λ t. omega arith) (λ t. omega arith)
-count-some (Bulk incoming address size) lengths id place = omega arith
-count-some (Interrupt incoming address size) lengths id place = omega arith
-count-some (Isoch incoming address size) lengths id place = omega arith
+count-some request count id place = some (request .what)
+  where
+    some : (what : What) → 0 < trbCount (recordFor (withWhat request what) count id place)
+    some (Control type code value index) =
+        picked (λ (n : ℕ). 0 < n) (eqb (request .length) 0) 2 3 (λ t. omega arith) (λ t. omega arith)
+    some (Bulk incoming) = omega arith
+    some (Interrupt incoming) = omega arith
+    some (Isoch incoming) = omega arith
 
-required-few : (request : Request) (lengths : List ℕ) → tooLong request lengths ≡ false → required request lengths ≤ packetCount
+required-few : (what : What) (size : ℕ) (lengths : List ℕ) → tooLong what size lengths ≡ false → countFor what size (length lengths) ≤ packetCount
 unfolding tooLong
-required-few (Control kind request value index address size) lengths t =
+required-few (Control type request value index) size lengths t =
     picked (λ (n : ℕ). n ≤ packetCount) (eqb size 0) 2 3 (λ u. omega arith) (λ u. omega arith)
-required-few (Bulk incoming address size) lengths t = omega arith
-required-few (Interrupt incoming address size) lengths t = omega arith
-required-few (Isoch incoming address size) lengths t =
+required-few (Bulk incoming) size lengths t = omega arith
+required-few (Interrupt incoming) size lengths t = omega arith
+required-few (Isoch incoming) size lengths t =
     let first = both-false (ltb packetCount (length lengths) || someOver lengths) (ltb size (sumOf lengths)) t .0 in
     omega (arith, ltb-false packetCount (length lengths) (both-false (ltb packetCount (length lengths)) (someOver lengths) first .0))
 
@@ -362,12 +367,12 @@ module _ (s : State) (request : Request) (lengths : List ℕ) (h : Sound s) (k :
       (λ (q : s .endpoint .at .place + 1 < s .endpoint .shape .slots). q)
       (eq-or-lt-of-le (place-slot (s .endpoint) (k .placing)))
 
-  roomy : s .endpoint .account .outstanding + required request lengths ≤ s .endpoint .shape .slots - 2
+  roomy : s .endpoint .account .outstanding + required request (length lengths) ≤ s .endpoint .shape .slots - 2
   unfolding startNo startTests crowded
   roomy = ltb-false _ _ (quiet (startTests (s .endpoint) (s .records) (length (s .packets)) request lengths) 3 refl t (omega arith))
 
   abbrev new : Record
-  new = recordFor request lengths (idTaken (s .endpoint) (s .records)) (s .endpoint .at .place)
+  new = recordFor request (length lengths) (idTaken (s .endpoint) (s .records)) (s .endpoint .at .place)
 
   abbrev after : List ℕ
   after = startedRecords (s .endpoint) (s .records) request lengths
@@ -388,7 +393,7 @@ module _ (s : State) (request : Request) (lengths : List ℕ) (h : Sound s) (k :
   started-bounds q l f =
       let r = recordTaken (s .endpoint) in
       ⊎-elim
-      (λ (e : q ≡ r). rw (ap (recordAt after) e ∙ new-here) (below, required-few request lengths (short s request lengths h t), omega arith))
+      (λ (e : q ≡ r). rw (ap (recordAt after) e ∙ new-here) (below, required-few (request .what) (request .length) lengths (short s request lengths h t), omega arith))
       (λ (d : q ≡ r → ⊥).
       let is = by-flies after (masks.taken (s .endpoint .account .occupancy) r) q .so f in
       let same = old-other q d in
@@ -398,7 +403,7 @@ module _ (s : State) (request : Request) (lengths : List ℕ) (h : Sound s) (k :
       rw same (k .bounds q l flew))
       (same-or-not q r)
 
-  started-placed : Placed (stateOf (startedEndpoint (s .endpoint) (s .records) request lengths) (s .ring) (s .finished) after (writePackets (s .packets) (recordTaken (s .endpoint)) request lengths))
+  started-placed : Placed (stateOf (startedEndpoint (s .endpoint) (s .records) request lengths) (s .ring) (s .finished) after (writePackets (s .packets) (recordTaken (s .endpoint)) (request .what) lengths))
   unfolding startedEndpoint charged
   started-placed =
       let e = startedEndpoint (s .endpoint) (s .records) request lengths in
@@ -412,7 +417,7 @@ module _ (s : State) (request : Request) (lengths : List ℕ) (h : Sound s) (k :
               most = omega arith;
               some = ap isNone (trb-next e (recordAt after (recordTaken (s .endpoint)))
                   (λ (q : s .endpoint .at .place + 1 ≡ s .endpoint .shape .slots). omega (arith, below))
-                  (rw new-here (count-some request lengths (idTaken (s .endpoint) (s .records)) (s .endpoint .at .place))));
+                  (rw new-here (count-some request (length lengths) (idTaken (s .endpoint) (s .records)) (s .endpoint .at .place))));
             });
         capacity = roomy;
         bounds = started-bounds;

@@ -38,11 +38,14 @@ use Rattle.records.specs.declared.Record.{Record}
 use Rattle.event.specs.Event.{eventOf}
 use Rattle.dock.specs.declared.Changed.{Changed}
 use Rattle.dock.specs.declared.Endpoint.{Endpoint}
+use Rattle.dock.specs.declared.Identity.{Identity}
 use Rattle.dock.specs.declared.Outcome.{Outcome}
 use Rattle.dock.specs.declared.Outcome.the-variants.{Done, Refused}
 use Rattle.dock.specs.declared.ReclaimedOne.{ReclaimedOne}
 use Rattle.dock.specs.declared.Request.{Request}
-use Rattle.dock.specs.declared.Request.the-variants.{Control, Bulk, Interrupt, Isoch}
+use Rattle.dock.specs.declared.Shape.{Shape}
+use Rattle.dock.specs.declared.What.{What}
+use Rattle.dock.specs.declared.What.the-variants.{Control, Bulk, Interrupt, Isoch}
 use Rattle.dock.specs.declared.ResetBegun.{ResetBegun}
 use Rattle.dock.specs.declared.StoredOne.{StoredOne}
 use Rattle.dock.specs.declared.Taken.{Taken}
@@ -113,14 +116,14 @@ follows-sound s e ring finished h f r t = record {
 pub not-done : (n : ℕ) → Refused n ≡ Done → ⊥
 not-done n e = let z : _≡_ {A = ℕ} 0 1 = cc in omega arith
 
-module _ (ring finished records packets : List ℕ) (slots base mask slot dci : ℕ) where
+module _ (ring finished records packets : List ℕ) (shape : Shape) (who : Identity) where
   zeros-long : (l : List ℕ) (n : ℕ) → length l ≡ n → length (zeros l) ≡ n
   zeros-long l n e = length-replicate (length l) 0 ∙ e
 
   none-held : (r : ℕ) → held masks.none r ≡ true → ⊥
   none-held r h = never-both h (none-free r)
 
-  books-fresh : (l : List ℕ) → Books (fresh slots base mask slot dci .account) l
+  books-fresh : (l : List ℕ) → Books (fresh shape who .account) l
   unfolding flightSum
   books-fresh l = record {
     nextAbove = omega arith;
@@ -133,39 +136,39 @@ module _ (ring finished records packets : List ℕ) (slots base mask slot dci : 
     outstandingSum = sym (sum-none recordCount (flightPart l masks.none) (λ r k. part-none l masks.none r (λ h. none-held r (h .0))));
   }
 
-  by-sized : (r f e p : ℕ) → Decides (sized slots r f e p) ((((r ≡ ringSize slots) × (f ≡ ringSize slots)) × (e ≡ recordsSize)) × (p ≡ packetsSize))
+  by-sized : (r f e p : ℕ) → Decides (sized (shape .slots) r f e p) ((((r ≡ ringSize (shape .slots)) × (f ≡ ringSize (shape .slots))) × (e ≡ recordsSize)) × (p ≡ packetsSize))
   unfolding sized
-  by-sized r f e p = both (both (both (by-eqb r (ringSize slots)) (by-eqb f (ringSize slots))) (by-eqb e recordsSize)) (by-eqb p packetsSize)
+  by-sized r f e p = both (both (both (by-eqb r (ringSize (shape .slots))) (by-eqb f (ringSize (shape .slots)))) (by-eqb e recordsSize)) (by-eqb p packetsSize)
 
-  pub fresh-sound : makeNo (length ring) (length finished) (length records) (length packets) slots base slot dci ≡ 0
-      → Sound (stateOf (fresh slots base mask slot dci) (zeros ring) (zeros finished) (zeros records) (zeros packets))
+  pub fresh-sound : makeNo (length ring) (length finished) (length records) (length packets) shape who ≡ 0
+      → Sound (stateOf (fresh shape who) (zeros ring) (zeros finished) (zeros records) (zeros packets))
   unfolding makeNo makeTests
   fresh-sound t =
-      let ts = makeTests (length ring) (length finished) (length records) (length packets) slots base slot dci in
+      let ts = makeTests (length ring) (length finished) (length records) (length packets) shape who in
       let sizes = by-sized (length ring) (length finished) (length records) (length packets) .so (not-false _ (quiet ts 1 refl t (omega arith))) in
       record {
         limits = not-false _ (quiet ts 0 refl t (omega arith));
-        ringLong = zeros-long ring (ringSize slots) (sizes .0 .0 .0);
-        finishedLong = zeros-long finished (ringSize slots) (sizes .0 .0 .1);
+        ringLong = zeros-long ring (ringSize (shape .slots)) (sizes .0 .0 .0);
+        finishedLong = zeros-long finished (ringSize (shape .slots)) (sizes .0 .0 .1);
         recordsLong = zeros-long records recordsSize (sizes .0 .1);
         packetsLong = zeros-long packets packetsSize (sizes .1);
         books = books-fresh (zeros records);
         underway = λ b. absurd (never-both b refl);
       }
 
-  make-sound : make ring finished records packets slots base mask slot dci .0 .answer ≡ Done
-      → Sound (madeOf (make ring finished records packets slots base mask slot dci))
+  make-sound : make ring finished records packets shape who .0 .answer ≡ Done
+      → Sound (madeOf (make ring finished records packets shape who))
   unfolding make
   make-sound =
       picked
       (λ (t : Changed × List ℕ × List ℕ × List ℕ × List ℕ). t .0 .answer ≡ Done → Sound (madeOf t))
-      (eqb (makeNo (length ring) (length finished) (length records) (length packets) slots base slot dci) 0)
+      (eqb (makeNo (length ring) (length finished) (length records) (length packets) shape who) 0)
       _ _
       (λ t d. fresh-sound (eqb-true _ _ t))
       (λ t d. absurd (not-done _ d))
 
 made-sound : (s : State) → Made s → Sound s
-made-sound s (making ring finished records packets slots base mask slot dci done) = make-sound ring finished records packets slots base mask slot dci done
+made-sound s (making ring finished records packets shape who done) = make-sound ring finished records packets shape who done
 
 -- ---- configuring and resetting
 
@@ -203,13 +206,13 @@ at-least-one [] h = omega arith
 at-least-one (n ∷ ns) h = h
 
 -- The packets of a request that is not too long lie within its record's.
-written-long : (packets : List ℕ) (r : ℕ) (request : Request) (lengths : List ℕ) → tooLong request lengths ≡ false → r < recordCount
-    → length packets ≡ packetsSize → length (writePackets packets r request lengths) ≡ packetsSize
+written-long : (packets : List ℕ) (r : ℕ) (what : What) (size : ℕ) (lengths : List ℕ) → tooLong what size lengths ≡ false → r < recordCount
+    → length packets ≡ packetsSize → length (writePackets packets r what lengths) ≡ packetsSize
 unfolding writePackets tooLong
-written-long packets r (Control kind request value index address size) lengths t l h = h
-written-long packets r (Bulk incoming address size) lengths t l h = h
-written-long packets r (Interrupt incoming address size) lengths t l h = h
-written-long packets r (Isoch incoming address size) lengths t l h =
+written-long packets r (Control type request value index) size lengths t l h = h
+written-long packets r (Bulk incoming) size lengths t l h = h
+written-long packets r (Interrupt incoming) size lengths t l h = h
+written-long packets r (Isoch incoming) size lengths t l h =
     let first = both-false (ltb packetCount (length lengths) || someOver lengths) (ltb size (sumOf lengths)) t .0 in
     let few = ltb-false packetCount (length lengths) (both-false (ltb packetCount (length lengths)) (someOver lengths) first .0) in
     let small = at-least-one lengths few in
@@ -224,7 +227,7 @@ module _ (s : State) (request : Request) (lengths : List ℕ) (h : Sound s)
       (quiet (startTests (s .endpoint) (s .records) (length (s .packets)) request lengths) 5 refl t (omega arith))
       (lowest-tells (s .endpoint .account .occupancy))
 
-  pub short : tooLong request lengths ≡ false
+  pub short : tooLong (request .what) (request .length) lengths ≡ false
   unfolding startNo startTests
   short = quiet (startTests (s .endpoint) (s .records) (length (s .packets)) request lengths) 4 refl t (omega arith)
 
@@ -232,18 +235,18 @@ module _ (s : State) (request : Request) (lengths : List ℕ) (h : Sound s)
       Sound
       (stateOf (startedEndpoint (s .endpoint) (s .records) request lengths) (s .ring) (s .finished)
       (startedRecords (s .endpoint) (s .records) request lengths)
-      (writePackets (s .packets) (recordTaken (s .endpoint)) request lengths))
+      (writePackets (s .packets) (recordTaken (s .endpoint)) (request .what) lengths))
   unfolding startedEndpoint startedRecords idTaken charged
   started-sound =
       let e = s .endpoint in
-      let v = recordFor request lengths (idTaken e (s .records)) (e .at .place) in
+      let v = recordFor request (length lengths) (idTaken e (s .records)) (e .at .place) in
       let r = recordTaken e in
       record {
         limits = h .limits;
         ringLong = h .ringLong;
         finishedLong = h .finishedLong;
         recordsLong = taken-long (e .account) (s .records) r v (taken .within) (taken .free) (h .recordsLong) refl refl (h .books);
-        packetsLong = written-long (s .packets) r request lengths short (taken .within) (h .packetsLong);
+        packetsLong = written-long (s .packets) r (request .what) (request .length) lengths short (taken .within) (h .packetsLong);
         books = books-taken (e .account) (s .records) r v (taken .within) (taken .free) (h .recordsLong) refl refl (h .books);
         underway = λ b. record {
           within = taken .within;
@@ -269,7 +272,7 @@ pub by-not : (b : Bool) → Decides (not b) (b ≡ false)
 by-not b = record { so = not-true b; not-so = λ f t. never-both (not-false b f) t }
 
 pub by-fits : (e : Endpoint)
-    → Decides (fits e) (((limitsHold (e .shape .slots) (e .shape .base) (e .who .slot) (e .who .dci) ≡ true) × (placesFit e ≡ true)) × (eqb (e .account .next) 0 ≡ false))
+    → Decides (fits e) (((limitsHold (e .shape) (e .who) ≡ true) × (placesFit e ≡ true)) × (eqb (e .account .next) 0 ≡ false))
 unfolding fits
 by-fits e = both (both (by-true _) (by-true (placesFit e))) (by-not (eqb (e .account .next) 0))
 

@@ -47,7 +47,7 @@ pub record Underway (number : ℕ) (occupancy : Occupancy) (records : List ℕ) 
   pub flying : flies records occupancy number ≡ true
 
 pub record Sound (s : State) : Type 0 where
-  pub limits : limitsHold (s .endpoint .shape .slots) (s .endpoint .shape .base) (s .endpoint .who .slot) (s .endpoint .who .dci) ≡ true
+  pub limits : limitsHold (s .endpoint .shape) (s .endpoint .who) ≡ true
   pub ringLong : length (s .ring) ≡ ringSize (s .endpoint .shape .slots)
   pub finishedLong : length (s .finished) ≡ ringSize (s .endpoint .shape .slots)
   pub recordsLong : length (s .records) ≡ recordsSize

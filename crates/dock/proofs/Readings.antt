@@ -5,7 +5,7 @@ use mathlib.Core.Bool.{Bool, true, false, not, _&&_}
 use mathlib.Core.List.{List, [], _∷_, _++_}
 use mathlib.Core.Path.{_≡_, refl}
 use lib.Dec.{eqb}
-use lib.ListN.{getD, replicate}
+use lib.ListN.{length, getD, replicate}
 use Rattle.mask.specs.Occupancy.{held, lowest}
 use Rattle.mask.specs.Occupancy as masks
 use Rattle.ids.specs.Free.{freeId, freeFrom, heldBy, any}
@@ -24,7 +24,8 @@ use Rattle.dock.specs.Stores.{trbOf, trbCount}
 use Rattle.dock.specs.Worth.{Worth, bytes, refused, worth, counts}
 use Rattle.dock.specs.declared.Endpoint.{Endpoint}
 use Rattle.dock.specs.declared.Request.{Request}
-use Rattle.dock.specs.declared.Request.the-variants.{Control, Bulk, Isoch}
+use Rattle.dock.specs.declared.What.{What}
+use Rattle.dock.specs.declared.What.the-variants.{Control, Bulk, Isoch}
 use Rattle.dock.specs.Limits.{limitsHold, recordsSize, packetsSize}
 use Rattle.dock.specs.Fit.{fits, placesFit, strays, fitsWith, nextOf}
 use Rattle.dock.specs.State.{fresh, withAccount, moved, idle}
@@ -45,7 +46,20 @@ slotIn (storedAs.Refused number) = 4096 + number
 
 -- A fresh endpoint of so many slots, at base 10000, with mask ffffffff.
 dockOf : ℕ → Endpoint
-dockOf slots = fresh slots 65536 4294967295 1 1
+dockOf slots = fresh (record { slots = slots; base = 65536 }) (record { slot = 1; dci = 1; mask = 4294967295 })
+
+-- The requests of the readings, at an address and of a length; bulk and ISO ones go in.
+asking : What → ℕ → ℕ → Request
+asking what address size = record { what = what; address = address; length = size }
+
+controlOf : ℕ → ℕ → ℕ → ℕ → ℕ → ℕ → Request
+controlOf type request value index address size = asking (Control type request value index) address size
+
+bulkOf : ℕ → ℕ → Request
+bulkOf address size = asking (Bulk true) address size
+
+isochOf : ℕ → ℕ → Request
+isochOf address size = asking (Isoch true) address size
 
 -- The number that a submission gets.
 gets : Endpoint → Request → List ℕ → ℕ
@@ -54,7 +68,7 @@ gets e request lengths = startNo e noRecords packetsSize request lengths
 -- The endpoint after a submission whose stores are all made, as far as its account goes.
 heldWith : Endpoint → Request → List ℕ → Endpoint
 heldWith e request lengths =
-    withAccount e (charged (e .account) (e .account .next) (recordTaken e) (required request lengths))
+    withAccount e (charged (e .account) (e .account .next) (recordTaken e) (required request (length lengths)))
 
 -- So many packets of 0 bytes.
 isoOf : ℕ → List ℕ
@@ -65,25 +79,25 @@ admits : ℕ → Endpoint → Bool × Endpoint
 admits zero e = (true, e)
 admits (suc n) e =
     let before = admits n e in (
-      before .0 && eqb (gets (before .1) (Isoch true 0 0) (isoOf 64)) 0,
-      heldWith (before .1) (Isoch true 0 0) (isoOf 64),
+      before .0 && eqb (gets (before .1) (isochOf 0 0) (isoOf 64)) 0,
+      heldWith (before .1) (isochOf 0 0) (isoOf 64),
     )
 
 w1 : Bool
 w1 =
     let many = admits 63 (dockOf 4096) in
-    let last = heldWith (many .1) (Isoch true 0 0) (isoOf 62) in
-    many .0 && eqb (gets (many .1) (Isoch true 0 0) (isoOf 62)) 0 && eqb (gets last (Bulk true 131072 64) []) 2
+    let last = heldWith (many .1) (isochOf 0 0) (isoOf 62) in
+    many .0 && eqb (gets (many .1) (isochOf 0 0) (isoOf 62)) 0 && eqb (gets last (bulkOf 131072 64) []) 2
 
 -- W2: L 64, one ISO request of 61 held: a control request without data gets 2, a bulk one is admitted.
 w2 : Bool
 w2 =
-    let e = heldWith (dockOf 64) (Isoch true 0 0) (isoOf 61) in
-    eqb (gets e (Control 0 9 1 0 0 0) []) 2 && eqb (gets e (Bulk true 131072 64) []) 0
+    let e = heldWith (dockOf 64) (isochOf 0 0) (isoOf 61) in
+    eqb (gets e (controlOf 0 9 1 0 0 0) []) 2 && eqb (gets e (bulkOf 131072 64) []) 0
 
 -- W3: mask ffffffff, address fffff000, length 4,095 admitted. W4: length 4,096 gives 5.
 w3w4 : Bool
-w3w4 = eqb (gets (dockOf 64) (Bulk true 4294963200 4095) []) 0 && eqb (gets (dockOf 64) (Bulk true 4294963200 4096) []) 5
+w3w4 = eqb (gets (dockOf 64) (bulkOf 4294963200 4095) []) 0 && eqb (gets (dockOf 64) (bulkOf 4294963200 4096) []) 5
 
 -- The tables of a ring of so many slots, as making leaves them, and the first n stores of a submission: the ring, and the slots in order.
 stored : ℕ → Endpoint → List ℕ → List ℕ → List ℕ → List ℕ → List ℕ → Endpoint × List ℕ × List ℕ
@@ -108,18 +122,18 @@ periodicOf e packet burst = configure e packet burst 1 .endpoint
 
 -- W5: bulk of 64, cycle 1: w3 00000425.
 w5 : Bool
-w5 = eqb (wordIn (submitted 1 (dockOf 64) (Bulk true 131072 64) []) 0 3) 1061
+w5 = eqb (wordIn (submitted 1 (dockOf 64) (bulkOf 131072 64) []) 0 3) 1061
 
 -- W6: in, 192 bytes, max packet 192, last: 80001425; not last: 80001625.
 w6 : Bool
 w6 =
-    let s = submitted 2 (periodicOf (dockOf 64) 192 0) (Isoch true 131072 384) (192 ∷ 192 ∷ []) in
+    let s = submitted 2 (periodicOf (dockOf 64) 192 0) (isochOf 131072 384) (192 ∷ 192 ∷ []) in
     eqb (wordIn s 1 3) 2147488805 && eqb (wordIn s 0 3) 2147489317
 
 -- W7: 4,096 bytes, max packet 1,024, burst 2: w2 00021000, last-burst 0.
 w7 : Bool
 w7 =
-    let s = submitted 1 (periodicOf (dockOf 64) 1024 2) (Isoch true 131072 4096) (4096 ∷ []) in
+    let s = submitted 1 (periodicOf (dockOf 64) 1024 2) (isochOf 131072 4096) (4096 ∷ []) in
     eqb (wordIn s 0 2) 135168 && eqb (bits 16 4 (wordIn s 0 3)) 0
 
 -- W8: code 28, remaining 100, requested 192: 100; code 27: 0; code 6: answer 8.
@@ -138,7 +152,7 @@ w8 = isBytes (worth 28 192 100) 100 && isBytes (worth 27 192 100) 0 && isRefused
 w9 : Bool
 w9 =
     let e = withAccount (dockOf 64) (record { next = 2 ^ 64 - 1; occupancy = masks.none; outstanding = 0 }) in
-    let s = start e noRecords noPackets (Bulk true 131072 64) [] in
+    let s = start e noRecords noPackets (bulkOf 131072 64) [] in
     eqb (recordAt (s .1) 0 .id) (2 ^ 64 - 1) && eqb (s .0 .endpoint .account .next) 1
 
 -- W10: L 5, base 10000, place 3, cycle 1, a control request of 18 bytes in: stores 3 (w3 00030840), 4 (the link), 0, 1, 3 (w3 00030841); place 2,
@@ -146,7 +160,7 @@ w9 =
 w10 : Bool
 w10 =
     let e = placed (dockOf 5) in
-    let asked = Control 128 6 256 0 131072 18 in
+    let asked = controlOf 128 6 256 0 131072 18 in
     let one = submitted 1 e asked [] in
     let all = submitted 5 e asked [] in
     eqb (wordIn one 3 3) 198720
@@ -168,5 +182,5 @@ allTrue (b ∷ bs) = b && allTrue bs
 
 -- Every reading holds.
 pub all-read : allTrue readings ≡ true
-unfolding readings allTrue w1 w2 w3w4 w5 w6 w7 w8 w9 w10 admits gets heldWith dockOf isoOf noRecords noPackets stored submitted wordIn slotIn periodicOf startNo startTests crowded tooLong beyond charged recordTaken idTaken startedEndpoint startedRecords writePackets start store storeNo storeTests stepped slotStored ringStored finishedStored settled storedAnswer nextOf trbOf trbCount fits placesFit strays fitsWith limitsHold configure plainNo plainTests worth counts held lowest masks.taken freeId freeFrom heldBy any recordAt wordsOf storeAt putWords put burstsOf packetsOf packetAt
+unfolding readings allTrue w1 w2 w3w4 w5 w6 w7 w8 w9 w10 admits gets heldWith dockOf asking controlOf bulkOf isochOf isoOf noRecords noPackets stored submitted wordIn slotIn periodicOf startNo startTests crowded tooLong beyond charged recordTaken idTaken startedEndpoint startedRecords writePackets start store storeNo storeTests stepped slotStored ringStored finishedStored settled storedAnswer nextOf trbOf trbCount fits placesFit strays fitsWith limitsHold configure plainNo plainTests worth counts masks.held masks.lowest masks.taken freeId freeFrom heldBy any recordAt wordsOf storeAt putWords put burstsOf packetsOf packetAt
 all-read = refl

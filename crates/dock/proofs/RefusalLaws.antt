@@ -16,11 +16,13 @@ use Rattle.finished.specs.Finished.{fillPlace}
 use Rattle.records.specs.Records.{recordAt}
 use Rattle.dock.specs.declared.Command.the-variants as command
 use Rattle.dock.specs.declared.Endpoint.{Endpoint}
+use Rattle.dock.specs.declared.Identity.{Identity}
 use Rattle.dock.specs.declared.Outcome.the-variants as outcome
 use Rattle.dock.specs.declared.Pointed.the-variants as pointed
 use Rattle.dock.specs.declared.Reclaimed.the-variants as reclaimed
 use Rattle.dock.specs.declared.Request.{Request}
 use Rattle.dock.specs.declared.Resetting.the-variants as resetting
+use Rattle.dock.specs.declared.Shape.{Shape}
 use Rattle.dock.specs.declared.Stored.the-variants as stored
 use Rattle.dock.specs.declared.Submitted.the-variants as submitted
 use Rattle.dock.specs.declared.Taken.the-variants as taken
@@ -47,24 +49,24 @@ pick-false x y q = rw q
 
 -- ---- making
 
-module _ (ring finished records packets : List ℕ) (slots base mask slot dci : ℕ) where
+module _ (ring finished records packets : List ℕ) (shape : Shape) (who : Identity) where
   abbrev numberOfMake : ℕ
-  numberOfMake = makeNo (length ring) (length finished) (length records) (length packets) slots base slot dci
+  numberOfMake = makeNo (length ring) (length finished) (length records) (length packets) shape who
 
-  pub make-exact : Exact (makeTests (length ring) (length finished) (length records) (length packets) slots base slot dci) numberOfMake
+  pub make-exact : Exact (makeTests (length ring) (length finished) (length records) (length packets) shape who) numberOfMake
   unfolding makeTests makeNo
-  make-exact = exact (makeTests (length ring) (length finished) (length records) (length packets) slots base slot dci) refl
+  make-exact = exact (makeTests (length ring) (length finished) (length records) (length packets) shape who) refl
 
   -- A making that is refused leaves the tables, and gives back no endpoint.
   pub make-refuses : (numberOfMake ≡ 0 → ⊥)
-      → make ring finished records packets slots base mask slot dci
+      → make ring finished records packets shape who
       ≡ (record { answer = outcome.Refused numberOfMake; endpoint = blank }, ring, finished, records, packets)
   unfolding make
   make-refuses refused = declines _ _ refused
 
   pub make-acts : numberOfMake ≡ 0
-      → make ring finished records packets slots base mask slot dci
-      ≡ (record { answer = outcome.Done; endpoint = fresh slots base mask slot dci }, zeros ring, zeros finished, zeros records, zeros packets)
+      → make ring finished records packets shape who
+      ≡ (record { answer = outcome.Done; endpoint = fresh shape who }, zeros ring, zeros finished, zeros records, zeros packets)
   unfolding make
   make-acts passed = acts _ _ passed
 
@@ -147,7 +149,7 @@ module _ (e : Endpoint) (records packets : List ℕ) (request : Request) (length
       ≡ (
         record { answer = outcome.Done; endpoint = startedEndpoint e records request lengths },
         startedRecords e records request lengths,
-        writePackets packets (recordTaken e) request lengths,
+        writePackets packets (recordTaken e) (request .what) lengths,
       )
   unfolding start
   start-acts passed = acts _ _ passed
@@ -209,9 +211,9 @@ module _ (e : Endpoint) (ring finished records packets : List ℕ) (request : Re
   -- Where it is admitted, the stores follow the start, on the endpoint and the tables that it left.
   pub submit-acts : ringsFit ≡ true → startNo e records (length packets) request lengths ≡ 0
       → let written = startedRecords e records request lengths in
-      let asked = writePackets packets (recordTaken e) request lengths in
+      let asked = writePackets packets (recordTaken e) (request .what) lengths in
       submit e ring finished records packets request lengths
-      ≡ joined (finish (mostStores request lengths) (startedEndpoint e records request lengths) ring finished written asked) written asked
+      ≡ joined (finish (mostStores request (length lengths)) (startedEndpoint e records request lengths) ring finished written asked) written asked
   unfolding submit
   submit-acts fit passed = rw (fit, start-acts e records packets request lengths passed)
 

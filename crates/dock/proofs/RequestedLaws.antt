@@ -22,11 +22,14 @@ use Rattle.packets.specs.Packets.{packetCount, packetIndex, packetAt}
 use Rattle.records.specs.Records.{control, bulk, interrupt, isoch, inFlight, stopped, recordAt}
 use Rattle.packets.specs.declared.Packet.{Packet}
 use Rattle.dock.specs.declared.Endpoint.{Endpoint}
+use Rattle.dock.specs.declared.Identity.{Identity}
 use Rattle.dock.specs.declared.ReclaimedOne.{ReclaimedOne}
 use Rattle.dock.specs.declared.Changed.{Changed}
 use Rattle.dock.specs.declared.Outcome.the-variants.{Done}
 use Rattle.dock.specs.declared.Request.{Request}
-use Rattle.dock.specs.declared.Request.the-variants.{Control, Bulk, Interrupt, Isoch}
+use Rattle.dock.specs.declared.Shape.{Shape}
+use Rattle.dock.specs.declared.What.{What}
+use Rattle.dock.specs.declared.What.the-variants.{Control, Bulk, Interrupt, Isoch}
 use Rattle.dock.specs.Limits.{packetsSize}
 use Rattle.dock.specs.Make.{zeros, makeNo, make}
 use Rattle.dock.specs.Start.{tooLong, atLeastOne, writePackets, recordTaken, startNo, start}
@@ -129,27 +132,27 @@ module _ (e : Endpoint) (finished records packets : List ℕ) (id : ℕ) where
 -- ---- a start
 
 module _ (packets : List ℕ) (r : ℕ) (lengths : List ℕ) (sized : length packets ≡ packetsSize) (below : r < recordCount) (m : Modest packets) where
-  iso-modest : (incoming : Bool) (address size : ℕ) → tooLong (Isoch incoming address size) lengths ≡ false
-      → (k : ℕ) → k < packetCount → packetAt (writePackets packets r (Isoch incoming address size) lengths) r k .requested ≤ 65536
-  iso-modest incoming address size short k small =
+  iso-modest : (incoming : Bool) (size : ℕ) → tooLong (Isoch incoming) size lengths ≡ false
+      → (k : ℕ) → k < packetCount → packetAt (writePackets packets r (Isoch incoming) lengths) r k .requested ≤ 65536
+  iso-modest incoming size short k small =
       ⊎-elim
       (λ (l : k < length (atLeastOne lengths)).
-      rw (packet-written packets r incoming address size lengths sized below short k l) (one-short lengths k (packet-short incoming address size lengths short) l))
-      (λ (l : length (atLeastOne lengths) ≤ k). rw (packet-behind packets r incoming address size lengths sized below short k l) (m r k below small))
+      rw (packet-written packets r incoming size lengths sized below short k l) (one-short lengths k (packet-short incoming size lengths short) l))
+      (λ (l : length (atLeastOne lengths) ≤ k). rw (packet-behind packets r incoming size lengths sized below short k l) (m r k below small))
       (lt-or-le k (length (atLeastOne lengths)))
 
-  own-modest : (request : Request) → tooLong request lengths ≡ false → (k : ℕ) → k < packetCount → packetAt (writePackets packets r request lengths) r k .requested ≤ 65536
+  own-modest : (what : What) (size : ℕ) → tooLong what size lengths ≡ false → (k : ℕ) → k < packetCount → packetAt (writePackets packets r what lengths) r k .requested ≤ 65536
   unfolding writePackets
-  own-modest (Control kind request value index address size) short k small = m r k below small
-  own-modest (Bulk incoming address size) short k small = m r k below small
-  own-modest (Interrupt incoming address size) short k small = m r k below small
-  own-modest (Isoch incoming address size) short k small = iso-modest incoming address size short k small
+  own-modest (Control type request value index) size short k small = m r k below small
+  own-modest (Bulk incoming) size short k small = m r k below small
+  own-modest (Interrupt incoming) size short k small = m r k below small
+  own-modest (Isoch incoming) size short k small = iso-modest incoming size short k small
 
-  write-modest : (request : Request) → tooLong request lengths ≡ false → Modest (writePackets packets r request lengths)
-  write-modest request short q k l small =
+  write-modest : (what : What) (size : ℕ) → tooLong what size lengths ≡ false → Modest (writePackets packets r what lengths)
+  write-modest what size short q k l small =
       ⊎-elim
-      (λ (e : q ≡ r). rw e (own-modest request short k small))
-      (λ (d : q ≡ r → ⊥). rw (others-packets-kept packets r lengths sized below request short q k small d) (m q k l small))
+      (λ (e : q ≡ r). rw e (own-modest what size short k small))
+      (λ (d : q ≡ r → ⊥). rw (others-packets-kept packets r lengths sized below what size short q k small d) (m q k l small))
       (same-or-not q r)
 
 start-modest : (s : State) (request : Request) (lengths : List ℕ) → Modest (s .packets) → Modest (after s (starts request lengths) .packets)
@@ -158,7 +161,7 @@ start-modest s request lengths m =
     picked (λ (a : Changed × List ℕ × List ℕ). Modest (a .2)) (eqb (startNo (s .endpoint) (s .records) (length (s .packets)) request lengths) 0) _ _
     (λ t.
     let k = start-admitted (s .endpoint) (s .records) (s .packets) request lengths (eqb-true _ _ t) in
-    write-modest (s .packets) (recordTaken (s .endpoint)) lengths (k .packets-size) (k .free .within) m request (k .short))
+    write-modest (s .packets) (recordTaken (s .endpoint)) lengths (k .packets-size) (k .free .within) m (request .what) (request .length) (k .short))
     (λ t. m)
 
 -- ---- making
@@ -172,16 +175,16 @@ zeros-modest : (l : List ℕ) → Modest (zeros l)
 unfolding packetAt
 zeros-modest l r k low small = rw (zero-at (length l) (packetIndex r k)) (omega arith)
 
-make-modest : (ring finished records packets : List ℕ) (slots base mask slot dci : ℕ) → make ring finished records packets slots base mask slot dci .0 .answer ≡ Done
-    → Modest (make ring finished records packets slots base mask slot dci .4)
+make-modest : (ring finished records packets : List ℕ) (shape : Shape) (who : Identity) → make ring finished records packets shape who .0 .answer ≡ Done
+    → Modest (make ring finished records packets shape who .4)
 unfolding make
-make-modest ring finished records packets slots base mask slot dci =
+make-modest ring finished records packets shape who =
     picked (λ (t : Changed × List ℕ × List ℕ × List ℕ × List ℕ). t .0 .answer ≡ Done → Modest (t .4))
-    (eqb (makeNo (length ring) (length finished) (length records) (length packets) slots base slot dci) 0) _ _
+    (eqb (makeNo (length ring) (length finished) (length records) (length packets) shape who) 0) _ _
     (λ t d. zeros-modest packets) (λ t d. absurd (not-done _ d))
 
 made-modest : (s : State) → Made s → Modest (s .packets)
-made-modest s (making ring finished records packets slots base mask slot dci done) = make-modest ring finished records packets slots base mask slot dci done
+made-modest s (making ring finished records packets shape who done) = make-modest ring finished records packets shape who done
 
 -- ---- the theorem
 

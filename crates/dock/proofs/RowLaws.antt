@@ -11,7 +11,9 @@ use Rattle.trb.specs.declared.Words.{Words}
 use Rattle.mask.specs.Occupancy.{lowest}
 use Rattle.ids.specs.Lookup.{findIn}
 use Rattle.dock.specs.declared.Endpoint.{Endpoint}
+use Rattle.dock.specs.declared.Identity.{Identity}
 use Rattle.dock.specs.declared.Request.{Request}
+use Rattle.dock.specs.declared.Shape.{Shape}
 use Rattle.dock.specs.Cancel.{cancelTests, cancelNo, notFlying}
 use Rattle.dock.specs.Configure.{plainTests, plainNo}
 use Rattle.dock.specs.Fit.{fitsWith, fits}
@@ -19,18 +21,18 @@ use Rattle.dock.specs.HandOver.{handOverTests, handOverNo, foreign}
 use Rattle.dock.specs.Limits.{limitsHold, ringSize, packetsSize}
 use Rattle.dock.specs.Make.{makeTests, makeNo, sized}
 use Rattle.dock.specs.Reclaim.{reclaimTests, reclaimNo, badRecord}
-use Rattle.dock.specs.Requests.{addressOf, lengthOf, required}
+use Rattle.dock.specs.Requests.{required}
 use Rattle.dock.specs.Reset.{beginTests, beginNo, endTests, endNo, occupied}
 use Rattle.dock.specs.Retire.{recordTests, recordNo}
 use Rattle.dock.specs.Start.{crowded, tooLong, isFull, beyond, startTests, startNo}
 use Rattle.dock.specs.Store.{storeTests, storeNo}
 
 -- "Making knows only 13, then 1."
-pub make-rows : (ring finished records packets slots base slot dci : ℕ)
-    → makeNo ring finished records packets slots base slot dci
-    ≡ pick (not (limitsHold slots base slot dci)) 13 (pick (not (sized slots ring finished records packets)) 1 0)
+pub make-rows : (ring finished records packets : ℕ) (shape : Shape) (who : Identity)
+    → makeNo ring finished records packets shape who
+    ≡ pick (not (limitsHold shape who)) 13 (pick (not (sized (shape .slots) ring finished records packets)) 1 0)
 unfolding makeTests makeNo
-make-rows ring finished records packets slots base slot dci = refl
+make-rows ring finished records packets shape who = refl
 
 module _ (e : Endpoint) where
   -- Configuring, stop, resume, the pointer: 1, then 12.
@@ -94,16 +96,16 @@ module _ (e : Endpoint) (records packets : List ℕ) (request : Request) (length
   fit = fitsWith e records && eqb (length packets) packetsSize
 
   abbrev crowd : Bool
-  crowd = crowded (e .shape .slots) (e .account .outstanding) (required request lengths)
+  crowd = crowded (e .shape .slots) (e .account .outstanding) (required request (length lengths))
 
   abbrev full : Bool
   full = isFull (lowest (e .account .occupancy))
 
   abbrev out : Bool
-  out = beyond (e .who .mask) (addressOf request) (lengthOf request)
+  out = beyond (e .who .mask) (request .address) (request .length)
 
   pub start-rows : startNo e records (length packets) request lengths
-      ≡ pick (not fit) 1 (pick (e .work .busy) 12 (pick (e .flags .reset) 2 (pick crowd 2 (pick (tooLong request lengths) 3 (pick full 4 (pick out 5 0))))))
+      ≡ pick (not fit) 1 (pick (e .work .busy) 12 (pick (e .flags .reset) 2 (pick crowd 2 (pick (tooLong (request .what) (request .length) lengths) 3 (pick full 4 (pick out 5 0))))))
   unfolding startTests startNo
   start-rows = refl
 
@@ -123,10 +125,10 @@ module _ (e : Endpoint) (records packets : List ℕ) (request : Request) (length
         start-crowded d = start-rows ∙ rw (a, b, c, d)
 
         module _ (d : crowd ≡ false) where
-          pub start-too-long : tooLong request lengths ≡ true → startNo e records (length packets) request lengths ≡ 3
+          pub start-too-long : tooLong (request .what) (request .length) lengths ≡ true → startNo e records (length packets) request lengths ≡ 3
           start-too-long f = start-rows ∙ rw (a, b, c, d, f)
 
-          module _ (f : tooLong request lengths ≡ false) where
+          module _ (f : tooLong (request .what) (request .length) lengths ≡ false) where
             pub start-full : full ≡ true → startNo e records (length packets) request lengths ≡ 4
             start-full g = start-rows ∙ rw (a, b, c, d, f, g)
 

@@ -26,7 +26,7 @@ use Rattle.dock.specs.declared.Endpoint.{Endpoint}
 use Rattle.dock.specs.declared.Request.{Request}
 use Rattle.dock.specs.Fit.{fitsWith}
 use Rattle.dock.specs.Limits.{packetsSize}
-use Rattle.dock.specs.Requests.{addressOf, lengthOf, required, recordFor}
+use Rattle.dock.specs.Requests.{required, recordFor}
 use Rattle.dock.specs.Start.{startTests, startNo, crowded, tooLong, isFull, beyond, numberFrom, recordTaken, idTaken, charged, begun, startedEndpoint, startedRecords}
 use Rattle.dock.proofs.RefusalLaws.{start-exact}
 use Rattle.dock.proofs.TestLaws.{FitsWith, by-fits-with, by-crowded}
@@ -43,10 +43,10 @@ module _ (e : Endpoint) (records packets : List ℕ) (request : Request) (length
     pub packets-size : length packets ≡ packetsSize
     pub resting : e .work .busy ≡ false
     pub steady : e .flags .reset ≡ false
-    pub room : e .account .outstanding + required request lengths ≤ e .shape .slots - 2
-    pub short : tooLong request lengths ≡ false
+    pub room : e .account .outstanding + required request (length lengths) ≤ e .shape .slots - 2
+    pub short : tooLong (request .what) (request .length) lengths ≡ false
     pub free : LowestFree (e .account .occupancy) (recordTaken e)
-    pub reach : beyond (e .who .mask) (addressOf request) (lengthOf request) ≡ false
+    pub reach : beyond (e .who .mask) (request .address) (request .length) ≡ false
 
   by-tables : Decides (fitsWith e records && eqb (length packets) packetsSize) (FitsWith e records × (length packets ≡ packetsSize))
   by-tables = both (by-fits-with e records) (by-eqb (length packets) packetsSize)
@@ -56,7 +56,7 @@ module _ (e : Endpoint) (records packets : List ℕ) (request : Request) (length
   start-admitted passed =
       let tests = start-exact e records packets request lengths .passed passed in
       let k = by-tables .so (not-false _ (tests 0 (omega arith))) in
-      let more = required request lengths in
+      let more = required request (length lengths) in
       let crowd : crowded (e .shape .slots) (e .account .outstanding) more ≡ false = tests 3 (omega arith) in
       record {
         fits = k .0;
@@ -108,7 +108,7 @@ module _ (e : Endpoint) (records packets : List ℕ) (request : Request) (length
   record-taken = taken-is (e .account .occupancy) (recordTaken e) record-below
 
   -- The TRBs outstanding: as many more as the request needs, and at most L-2.
-  pub outstanding-after : startedEndpoint e records request lengths .account .outstanding ≡ e .account .outstanding + required request lengths
+  pub outstanding-after : startedEndpoint e records request lengths .account .outstanding ≡ e .account .outstanding + required request (length lengths)
   unfolding startedEndpoint charged
   outstanding-after = refl
 
@@ -123,7 +123,7 @@ module _ (e : Endpoint) (records : List ℕ) (request : Request) (lengths : List
 
   -- The account is charged, whatever the ring has in it.
   pub account-charged : startedEndpoint e records request lengths .account
-      ≡ charged (e .account) (idTaken e records) (recordTaken e) (required request lengths)
+      ≡ charged (e .account) (idTaken e records) (recordTaken e) (required request (length lengths))
   unfolding startedEndpoint
   account-charged = refl
 
@@ -150,16 +150,16 @@ module _ (e : Endpoint) (records packets : List ℕ) (request : Request) (length
       omega (arith, record-below e records packets request lengths passed)
 
   -- The record taken reads as the request's,
-  pub record-written : recordAt (startedRecords e records request lengths) (recordTaken e) ≡ recordFor request lengths (idTaken e records) (e .at .place)
+  pub record-written : recordAt (startedRecords e records request lengths) (recordTaken e) ≡ recordFor request (length lengths) (idTaken e records) (e .at .place)
   unfolding startedRecords
-  record-written = record-put records (recordTaken e) (recordFor request lengths (idTaken e records) (e .at .place)) record-room
+  record-written = record-put records (recordTaken e) (recordFor request (length lengths) (idTaken e records) (e .at .place)) record-room
 
   -- every other as it was,
   pub records-kept : (r : ℕ) → (r ≡ recordTaken e → ⊥) → recordAt (startedRecords e records request lengths) r ≡ recordAt records r
   unfolding startedRecords
-  records-kept r differs = record-other records (recordTaken e) (recordFor request lengths (idTaken e records) (e .at .place)) record-room r differs
+  records-kept r differs = record-other records (recordTaken e) (recordFor request (length lengths) (idTaken e records) (e .at .place)) record-room r differs
 
   -- and the table keeps its length.
   pub records-length : length (startedRecords e records request lengths) ≡ length records
   unfolding startedRecords
-  records-length = put-length recordWords records (recordTaken e) (recordList (recordFor request lengths (idTaken e records) (e .at .place))) refl record-room
+  records-length = put-length recordWords records (recordTaken e) (recordList (recordFor request (length lengths) (idTaken e records) (e .at .place))) refl record-room

@@ -15,10 +15,11 @@ use Rattle.records.specs.Records.{recordAt}
 use Rattle.records.specs.declared.Record.{Record}
 use Rattle.dock.specs.declared.Endpoint.{Endpoint}
 use Rattle.dock.specs.declared.Request.{Request}
-use Rattle.dock.specs.declared.Request.the-variants.{Control, Bulk, Interrupt, Isoch}
+use Rattle.dock.specs.declared.What.{What}
+use Rattle.dock.specs.declared.What.the-variants.{Control, Bulk, Interrupt, Isoch}
 use Rattle.dock.specs.Fit.{theTrb, nextOf, isNone}
 use Rattle.dock.specs.Limits.{ringSize}
-use Rattle.dock.specs.Requests.{required, recordFor}
+use Rattle.dock.specs.Requests.{countFor, required, withWhat, recordFor}
 use Rattle.dock.specs.Start.{startNo, tooLong, recordTaken, idTaken, charged, writePackets, startedEndpoint, startedRecords}
 use Rattle.dock.specs.Stores.{trbCount}
 use Rattle.dock.proofs.NextLaws.{is-next, Storing}
@@ -26,23 +27,27 @@ use Rattle.dock.proofs.AskedLaws.{few-packets, written-length}
 use Rattle.dock.proofs.StartLaws.{Starting, start-admitted, record-below, record-taken, record-written, records-length}
 
 -- A record that is kept of an admitted request has as many TRBs as the request takes, and at least one.
-pub count-is : (request : Request) (lengths : List ℕ) (id place : ℕ) → tooLong request lengths ≡ false
-    → trbCount (recordFor request lengths id place) ≡ required request lengths
+pub count-is : (request : Request) (lengths : List ℕ) (id place : ℕ) → tooLong (request .what) (request .length) lengths ≡ false
+    → trbCount (recordFor request (length lengths) id place) ≡ required request (length lengths)
 unfolding trbCount
-count-is (Control kind request value index address size) lengths id place short = refl
-count-is (Bulk incoming address size) lengths id place short = refl
-count-is (Interrupt incoming address size) lengths id place short = refl
-count-is (Isoch incoming address size) lengths id place short = omega (arith, few-packets incoming address size lengths short)
+count-is request lengths id place = counted (request .what)
+  where
+    counted : (what : What) → tooLong what (request .length) lengths ≡ false
+        → trbCount (recordFor (withWhat request what) (length lengths) id place) ≡ countFor what (request .length) (length lengths)
+    counted (Control type code value index) short = refl
+    counted (Bulk incoming) short = refl
+    counted (Interrupt incoming) short = refl
+    counted (Isoch incoming) short = omega (arith, few-packets incoming (request .length) lengths short)
 
 two-or-three : (b : Bool) → 0 < pick b 2 3
 two-or-three true = omega arith
 two-or-three false = omega arith
 
-pub required-some : (request : Request) (lengths : List ℕ) → 0 < required request lengths
-required-some (Control kind request value index address size) lengths = two-or-three (eqb size 0)
-required-some (Bulk incoming address size) lengths = omega arith
-required-some (Interrupt incoming address size) lengths = omega arith
-required-some (Isoch incoming address size) lengths = omega arith
+pub required-some : (what : What) (size count : ℕ) → 0 < countFor what size count
+required-some (Control type request value index) size count = two-or-three (eqb size 0)
+required-some (Bulk incoming) size count = omega arith
+required-some (Interrupt incoming) size count = omega arith
+required-some (Isoch incoming) size count = omega arith
 
 after-some : (x : ℕ) → afterId x ≡ 0 → ⊥
 after-some x q = ⊎-elim (λ (h : x ≡ 2 ^ 64 - 1). omega (arith, after-last x h)) (λ (h : x ≡ 2 ^ 64 - 1 → ⊥). omega (arith, after-more x h)) (same-or-not x (2 ^ 64 - 1))
@@ -58,7 +63,7 @@ module _ (e : Endpoint) (ring finished records packets : List ℕ) (request : Re
   place-low =
       ⊎-elim (λ (h : e .at .place + 1 < e .shape .slots). h) (λ h. absurd (false≢true (sym (s .resting) ∙ h .0 .1))) (s .fits .endpoint .place)
 
-  pub started-count : trbCount (recordAt (startedRecords e records request lengths) (recordTaken e)) ≡ required request lengths
+  pub started-count : trbCount (recordAt (startedRecords e records request lengths) (recordTaken e)) ≡ required request (length lengths)
   started-count =
       ap trbCount (record-written e records packets request lengths passed) ∙ count-is request lengths (idTaken e records) (e .at .place) (s .short)
 
@@ -67,9 +72,9 @@ module _ (e : Endpoint) (ring finished records packets : List ℕ) (request : Re
   unfolding startedEndpoint
   started-next =
       is-next (startedEndpoint e records request lengths) (recordAt (startedRecords e records request lengths) (recordTaken e)) theTrb
-      (λ q. omega (arith, place-low), omega (arith, started-count, required-some request lengths))
+      (λ q. omega (arith, place-low), omega (arith, started-count, required-some (request .what) (request .length) (length lengths)))
 
-  pub started-storing : Storing (startedEndpoint e records request lengths) ring finished (startedRecords e records request lengths) (writePackets packets (recordTaken e) request lengths)
+  pub started-storing : Storing (startedEndpoint e records request lengths) ring finished (startedRecords e records request lengths) (writePackets packets (recordTaken e) (request .what) lengths)
   unfolding startedEndpoint charged
   started-storing = record {
     fits = record { limits = s .fits .endpoint .limits; place = inl place-low; first = inr place-low; next = after-some (idTaken e records) };
@@ -77,7 +82,7 @@ module _ (e : Endpoint) (ring finished records packets : List ℕ) (request : Re
     ring-size = ring-size;
     finished-size = finished-size;
     packets-size =
-        written-length packets (recordTaken e) lengths (s .packets-size) (record-below e records packets request lengths passed) request (s .short)
+        written-length packets (recordTaken e) lengths (s .packets-size) (record-below e records packets request lengths passed) (request .what) (request .length) (s .short)
         ∙ s .packets-size;
     busy = refl;
     course = record {

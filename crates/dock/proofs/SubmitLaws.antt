@@ -51,5 +51,5 @@ module _ (P : State → Type 0) (stored : (s : State) → P s → P (after s sto
       let a = starting.start e (s .records) (s .packets) request lengths in
       picked (λ (x : StoredAll × List ℕ × List ℕ × List ℕ × List ℕ). P (stateOf (x .0 .endpoint) (x .1) (x .2) (x .3) (x .4)))
       (eqb (length (s .ring)) (ringSize (e .shape .slots)) && eqb (length (s .finished)) (ringSize (e .shape .slots))) _ _
-      (λ t. by-started (a .0 .answer) (after s (starts request lengths)) (mostStores request lengths) started)
+      (λ t. by-started (a .0 .answer) (after s (starts request lengths)) (mostStores request (length lengths)) started)
       (λ t. h)

@@ -24,7 +24,9 @@ use Rattle.ids.specs.Free.{recordCount}
 use Rattle.packets.specs.Packets.{packetCount}
 use Rattle.records.specs.Records.{inFlight, recordAt}
 use Rattle.dock.specs.declared.Endpoint.{Endpoint}
-use Rattle.dock.specs.declared.Request.the-variants.{Control, Bulk, Interrupt, Isoch}
+use Rattle.dock.specs.declared.Identity.{Identity}
+use Rattle.dock.specs.declared.Shape.{Shape}
+use Rattle.dock.specs.declared.What.the-variants.{Control, Bulk, Interrupt, Isoch}
 use Rattle.dock.specs.Fit.{fits, placesFit, fitsWith, strays, flies, nextOf, isNone}
 use Rattle.dock.specs.HandOver.{isOutside, slotFor, foreign}
 use Rattle.dock.specs.Limits.{limitsHold, recordsSize, longest, longestControl}
@@ -35,19 +37,19 @@ use Rattle.dock.specs.Stores.{trbCount}
 -- ---- what a dock may hold
 
 -- "Slots L: 3 to 4,096. Base: a multiple of 4,096, base + 16L at most 2^64. dci 1 to 31, slot id 1 to 255."
-pub record Limits (slots base slot dci : ℕ) : Type 0 where
-  pub slots-least : 3 ≤ slots
-  pub slots-most : slots ≤ 4096
-  pub base-aligned : base % 4096 ≡ 0
-  pub base-room : base + 16 * slots ≤ 2 ^ 64
-  pub dci-least : 1 ≤ dci
-  pub dci-most : dci ≤ 31
-  pub slot-least : 1 ≤ slot
-  pub slot-most : slot ≤ 255
+pub record Limits (shape : Shape) (who : Identity) : Type 0 where
+  pub slots-least : 3 ≤ shape .slots
+  pub slots-most : shape .slots ≤ 4096
+  pub base-aligned : shape .base % 4096 ≡ 0
+  pub base-room : shape .base + 16 * shape .slots ≤ 2 ^ 64
+  pub dci-least : 1 ≤ who .dci
+  pub dci-most : who .dci ≤ 31
+  pub slot-least : 1 ≤ who .slot
+  pub slot-most : who .slot ≤ 255
 
-pub by-limits : (slots base slot dci : ℕ) → Decides (limitsHold slots base slot dci) (Limits slots base slot dci)
+pub by-limits : (shape : Shape) (who : Identity) → Decides (limitsHold shape who) (Limits shape who)
 unfolding limitsHold
-by-limits slots base slot dci =
+by-limits shape who =
     reworded
     (λ k. record {
       slots-least = k .0 .0 .0;
@@ -64,8 +66,10 @@ by-limits slots base slot dci =
       (((k .dci-least, k .dci-most), k .slot-least), k .slot-most),
     ))
     (both
-    (both (both (by-leb 3 slots) (by-leb slots 4096)) (both (by-eqb (base % 4096) 0) (by-leb (base + 16 * slots) (2 ^ 64))))
-    (both (both (both (by-leb 1 dci) (by-leb dci 31)) (by-leb 1 slot)) (by-leb slot 255)))
+    (both
+    (both (by-leb 3 (shape .slots)) (by-leb (shape .slots) 4096))
+    (both (by-eqb (shape .base % 4096) 0) (by-leb (shape .base + 16 * shape .slots) (2 ^ 64))))
+    (both (both (both (by-leb 1 (who .dci)) (by-leb (who .dci) 31)) (by-leb 1 (who .slot))) (by-leb (who .slot) 255)))
 
 -- The tables have their sizes: four words a slot, four words a place, 64 records of twelve words, 64 packets for each.
 pub record Sized (slots ring finished records packets : ℕ) : Type 0 where
@@ -104,7 +108,7 @@ module _ (e : Endpoint) where
 
   -- "L, base, dci or slot id outside the above, place above L-2 .., next id 0": none of it.
   pub record Fits : Type 0 where
-    pub limits : Limits (e .shape .slots) (e .shape .base) (e .who .slot) (e .who .dci)
+    pub limits : Limits (e .shape) (e .who)
     pub place : PlaceFits
     pub first : FirstFits
     pub next : e .account .next ≡ 0 → ⊥
@@ -115,7 +119,7 @@ module _ (e : Endpoint) where
       reworded
       (λ k. record { limits = k .0 .0; place = k .0 .1 .0; first = k .0 .1 .1; next = k .1 })
       (λ k. ((k .limits, (k .place, k .first)), k .next))
-      (both (both (by-limits (e .shape .slots) (e .shape .base) (e .who .slot) (e .who .dci)) by-places) (negated (by-eqb (e .account .next) 0)))
+      (both (both (by-limits (e .shape) (e .who)) by-places) (negated (by-eqb (e .account .next) 0)))
 
 held-to : (a b : Bool) → (a && not b) ≡ false → a ≡ true → b ≡ true
 held-to true true s t = refl
@@ -190,8 +194,8 @@ unfolding beyond
 by-beyond mask address size = both (by-ltb 0 size) (either (by-ltb mask address) (by-ltb mask (address + size)))
 
 -- Row 3, by the kind of the request.
-module _ (kind request value index address size : ℕ) (lengths : List ℕ) where
-  pub by-too-long-control : Decides (tooLong (Control kind request value index address size) lengths) (65535 < size)
+module _ (type request value index size : ℕ) (lengths : List ℕ) where
+  pub by-too-long-control : Decides (tooLong (Control type request value index) size lengths) (65535 < size)
   unfolding tooLong
   by-too-long-control = by-ltb longestControl size
 
@@ -214,17 +218,17 @@ none-over (n ∷ ns) = reworded there back (either (by-ltb longest n) (none-over
     back : SomeOver longest (n ∷ ns) → (longest < n) ⊎ SomeOver longest ns
     back k = at (k .0) (k .1) (k .2)
 
-module _ (incoming : Bool) (address size : ℕ) (lengths : List ℕ) where
-  pub by-too-long-bulk : Decides (tooLong (Bulk incoming address size) lengths) (65536 < size)
+module _ (incoming : Bool) (size : ℕ) (lengths : List ℕ) where
+  pub by-too-long-bulk : Decides (tooLong (Bulk incoming) size lengths) (65536 < size)
   unfolding tooLong
   by-too-long-bulk = by-ltb longest size
 
-  pub by-too-long-interrupt : Decides (tooLong (Interrupt incoming address size) lengths) (65536 < size)
+  pub by-too-long-interrupt : Decides (tooLong (Interrupt incoming) size lengths) (65536 < size)
   unfolding tooLong
   by-too-long-interrupt = by-ltb longest size
 
   -- "Over 64 packets", one packet over 65,536, "or sum over buffer".
-  pub by-too-long-isoch : Decides (tooLong (Isoch incoming address size) lengths) (((64 < length lengths) ⊎ SomeOver 65536 lengths) ⊎ (size < sumOf lengths))
+  pub by-too-long-isoch : Decides (tooLong (Isoch incoming) size lengths) (((64 < length lengths) ⊎ SomeOver 65536 lengths) ⊎ (size < sumOf lengths))
   unfolding tooLong
   by-too-long-isoch = either (either (by-ltb packetCount (length lengths)) (none-over lengths)) (by-ltb size (sumOf lengths))
 

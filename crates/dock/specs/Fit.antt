@@ -23,7 +23,7 @@ placesFit e =
 -- "L, base, dci or slot id outside the above, place above L-2 .., next id 0": none of it.
 unfoldable pub fits : Endpoint → Bool
 fits e =
-    limitsHold (e .shape .slots) (e .shape .base) (e .who .slot) (e .who .dci)
+    limitsHold (e .shape) (e .who)
     && placesFit e
     && not (eqb (e .account .next) 0)
 

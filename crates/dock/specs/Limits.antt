@@ -4,22 +4,24 @@ use mathlib.Core.Bool.{Bool, _&&_}
 use lib.Dec.{leb, eqb}
 use Rattle.ids.specs.Free.{recordCount, recordWords}
 use Rattle.packets.specs.Packets.{packetCount}
+use Rattle.dock.specs.declared.Identity.{Identity}
+use Rattle.dock.specs.declared.Shape.{Shape}
 
 -- "Slots L: 3 to 4,096."
-abbrev pub slotsFit : ℕ → Bool
-slotsFit slots = leb 3 slots && leb slots 4096
+abbrev pub slotsFit : Shape → Bool
+slotsFit shape = leb 3 (shape .slots) && leb (shape .slots) 4096
 
 -- "Base: a multiple of 4,096, base + 16L at most 2^64."
-abbrev pub baseFits : ℕ → ℕ → Bool
-baseFits base slots = eqb (base % 4096) 0 && leb (base + 16 * slots) (2 ^ 64)
+abbrev pub baseFits : Shape → Bool
+baseFits shape = eqb (shape .base % 4096) 0 && leb (shape .base + 16 * shape .slots) (2 ^ 64)
 
 -- "dci 1 to 31, slot id 1 to 255."
-abbrev pub idsFit : ℕ → ℕ → Bool
-idsFit slot dci = leb 1 dci && leb dci 31 && leb 1 slot && leb slot 255
+abbrev pub idsFit : Identity → Bool
+idsFit who = leb 1 (who .dci) && leb (who .dci) 31 && leb 1 (who .slot) && leb (who .slot) 255
 
 -- All of them: what making refuses with 13, and every other call with 1.
-unfoldable pub limitsHold : ℕ → ℕ → ℕ → ℕ → Bool
-limitsHold slots base slot dci = slotsFit slots && baseFits base slots && idsFit slot dci
+unfoldable pub limitsHold : Shape → Identity → Bool
+limitsHold shape who = slotsFit shape && baseFits shape && idsFit who
 
 -- The sizes of the tables: four words a slot, four words a place; "64 request records", of twelve words; "64 packet records for each", of one.
 abbrev pub ringSize : ℕ → ℕ

@@ -7,8 +7,10 @@ use mathlib.Core.Path.{_≡_}
 use Rattle.trb.specs.declared.Words.{Words}
 use Rattle.dock.specs.declared.Changed.{Changed}
 use Rattle.dock.specs.declared.Endpoint.{Endpoint}
+use Rattle.dock.specs.declared.Identity.{Identity}
 use Rattle.dock.specs.declared.Outcome.the-variants.{Done}
 use Rattle.dock.specs.declared.Request.{Request}
+use Rattle.dock.specs.declared.Shape.{Shape}
 use Rattle.dock.specs.Make.{make}
 use Rattle.dock.specs.Configure.{configure}
 use Rattle.dock.specs.Start.{start}
@@ -44,9 +46,9 @@ madeOf m = stateOf (m .0 .endpoint) (m .1) (m .2) (m .3) (m .4)
 
 -- A state that a making leaves which is done.
 pub data Made : State → Type 0 where
-  making : (ring finished records packets : List ℕ) (slots base mask slot dci : ℕ)
-      → make ring finished records packets slots base mask slot dci .0 .answer ≡ Done
-      → Made (madeOf (make ring finished records packets slots base mask slot dci))
+  making : (ring finished records packets : List ℕ) (shape : Shape) (who : Identity)
+      → make ring finished records packets shape who .0 .answer ≡ Done
+      → Made (madeOf (make ring finished records packets shape who))
 
 -- ---- the calls
 

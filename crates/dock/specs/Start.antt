@@ -19,11 +19,12 @@ use Rattle.dock.specs.declared.Changed.{Changed}
 use Rattle.dock.specs.declared.Endpoint.{Endpoint}
 use Rattle.dock.specs.declared.Outcome.the-variants.{Done, Refused}
 use Rattle.dock.specs.declared.Request.{Request}
-use Rattle.dock.specs.declared.Request.the-variants.{Control, Bulk, Interrupt, Isoch}
+use Rattle.dock.specs.declared.What.{What}
+use Rattle.dock.specs.declared.What.the-variants.{Control, Bulk, Interrupt, Isoch}
 use Rattle.dock.specs.declared.Work.{Work}
 use Rattle.dock.specs.Limits.{packetsSize, longest, longestControl}
 use Rattle.dock.specs.Fit.{fitsWith}
-use Rattle.dock.specs.Requests.{addressOf, lengthOf, bufferOf, required, recordFor}
+use Rattle.dock.specs.Requests.{bufferOf, required, recordFor}
 use Rattle.dock.specs.State.{withWork}
 
 -- ---- the refusals
@@ -42,11 +43,11 @@ someOver [] = false
 someOver (n ∷ ns) = ltb longest n || someOver ns
 
 -- Row 3: "a data length limit above broken, over 64 packets, or sum over buffer".
-unfoldable pub tooLong : Request → List ℕ → Bool
-tooLong (Control kind request value index address size) lengths = ltb longestControl size
-tooLong (Bulk incoming address size) lengths = ltb longest size
-tooLong (Interrupt incoming address size) lengths = ltb longest size
-tooLong (Isoch incoming address size) lengths = ltb packetCount (length lengths) || someOver lengths || ltb size (sumOf lengths)
+unfoldable pub tooLong : What → ℕ → List ℕ → Bool
+tooLong (Control type request value index) size lengths = ltb longestControl size
+tooLong (Bulk incoming) size lengths = ltb longest size
+tooLong (Interrupt incoming) size lengths = ltb longest size
+tooLong (Isoch incoming) size lengths = ltb packetCount (length lengths) || someOver lengths || ltb size (sumOf lengths)
 
 -- Row 4: "all 64 records taken".
 abbrev pub isFull : Found → Bool
@@ -63,10 +64,10 @@ startTests e records packets request lengths =
     (not (fitsWith e records && eqb packets packetsSize), 1)
     ∷ (e .work .busy, 12)
     ∷ (e .flags .reset, 2)
-    ∷ (crowded (e .shape .slots) (e .account .outstanding) (required request lengths), 2)
-    ∷ (tooLong request lengths, 3)
+    ∷ (crowded (e .shape .slots) (e .account .outstanding) (required request (length lengths)), 2)
+    ∷ (tooLong (request .what) (request .length) lengths, 3)
     ∷ (isFull (masks.lowest (e .account .occupancy)), 4)
-    ∷ (beyond (e .who .mask) (addressOf request) (lengthOf request), 5)
+    ∷ (beyond (e .who .mask) (request .address) (request .length), 5)
     ∷ []
 
 unfoldable pub startNo : Endpoint → List ℕ → ℕ → Request → List ℕ → ℕ
@@ -102,20 +103,20 @@ atLeastOne [] = 0 ∷ []
 atLeastOne (n ∷ ns) = n ∷ ns
 
 -- "Writes the record's packets anew, unmarked": the word of an unmarked packet is what it asks for. Only an ISO request has packets.
-unfoldable pub writePackets : List ℕ → ℕ → Request → List ℕ → List ℕ
-writePackets packets number (Control kind request value index address size) lengths = packets
-writePackets packets number (Bulk incoming address size) lengths = packets
-writePackets packets number (Interrupt incoming address size) lengths = packets
-writePackets packets number (Isoch incoming address size) lengths =
+unfoldable pub writePackets : List ℕ → ℕ → What → List ℕ → List ℕ
+writePackets packets number (Control type request value index) lengths = packets
+writePackets packets number (Bulk incoming) lengths = packets
+writePackets packets number (Interrupt incoming) lengths = packets
+writePackets packets number (Isoch incoming) lengths =
     paste packets (packetCount * number) (atLeastOne lengths) (length (atLeastOne lengths))
 
 unfoldable pub startedEndpoint : Endpoint → List ℕ → Request → List ℕ → Endpoint
 startedEndpoint e records request lengths =
-    withWork e (charged (e .account) (idTaken e records) (recordTaken e) (required request lengths)) (begun e (recordTaken e) request)
+    withWork e (charged (e .account) (idTaken e records) (recordTaken e) (required request (length lengths))) (begun e (recordTaken e) request)
 
 unfoldable pub startedRecords : Endpoint → List ℕ → Request → List ℕ → List ℕ
 startedRecords e records request lengths =
-    put recordWords records (recordTaken e) (recordList (recordFor request lengths (idTaken e records) (e .at .place)))
+    put recordWords records (recordTaken e) (recordList (recordFor request (length lengths) (idTaken e records) (e .at .place)))
 
 -- ---- the call
 
@@ -125,6 +126,6 @@ start e records packets request lengths =
     pick (eqb no 0) (
       record { answer = Done; endpoint = startedEndpoint e records request lengths },
       startedRecords e records request lengths,
-      writePackets packets (recordTaken e) request lengths,
+      writePackets packets (recordTaken e) (request .what) lengths,
     )
     (record { answer = Refused no; endpoint = e }, records, packets)

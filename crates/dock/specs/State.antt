@@ -6,7 +6,9 @@ use Rattle.ring.specs.declared.Position.{Position}
 use Rattle.dock.specs.declared.Account.{Account}
 use Rattle.dock.specs.declared.Endpoint.{Endpoint}
 use Rattle.dock.specs.declared.Flags.{Flags}
+use Rattle.dock.specs.declared.Identity.{Identity}
 use Rattle.dock.specs.declared.Periodic.{Periodic}
+use Rattle.dock.specs.declared.Shape.{Shape}
 use Rattle.dock.specs.declared.Work.{Work}
 
 -- No submission under way.
@@ -14,12 +16,12 @@ abbrev pub idle : Work
 idle = record { busy = false; number = 0; stored = 0; address = 0; place = 0; cycle = false }
 
 -- "Place 0, cycle 1, next id 1, next frame, max packet and burst 0, interval 1, no flag set."
-abbrev pub fresh : ℕ → ℕ → ℕ → ℕ → ℕ → Endpoint
-fresh slots base mask slot dci =
+abbrev pub fresh : Shape → Identity → Endpoint
+fresh shape who =
     record {
       at = record { place = 0; cycle = true };
-      shape = record { slots = slots; base = base };
-      who = record { slot = slot; dci = dci; mask = mask };
+      shape = shape;
+      who = who;
       periodic = record { packet = 0; burst = 0; interval = 1; frame = 0 };
       account = record { next = 1; occupancy = masks.none; outstanding = 0 };
       flags = record { halted = false; reset = false };

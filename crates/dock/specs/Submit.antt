@@ -32,8 +32,8 @@ finish (suc n) e ring finished records packets =
     afterStore (s .0 .answer) (s .0 .endpoint) (s .1) (s .2) (λ e ring finished. finish n e ring finished records packets)
 
 -- A request's stores: its TRBs, a link, and a setup again. "The whole is proved equal to its stores in order."
-abbrev pub mostStores : Request → List ℕ → ℕ
-mostStores request lengths = required request lengths + 2
+abbrev pub mostStores : Request → ℕ → ℕ
+mostStores request count = required request count + 2
 
 -- All tables, as the whole submission leaves them.
 abbrev pub joined : StoredAll × List ℕ × List ℕ → List ℕ → List ℕ → StoredAll × List ℕ × List ℕ × List ℕ × List ℕ
@@ -49,5 +49,5 @@ unfoldable pub submit : Endpoint → List ℕ → List ℕ → List ℕ → List
 submit e ring finished records packets request lengths =
     let s = start e records packets request lengths in
     pick (eqb (length ring) (ringSize (e .shape .slots)) && eqb (length finished) (ringSize (e .shape .slots)))
-    (afterStart (s .0 .answer) (s .0 .endpoint) (mostStores request lengths) ring finished (s .1) (s .2))
+    (afterStart (s .0 .answer) (s .0 .endpoint) (mostStores request (length lengths)) ring finished (s .1) (s .2))
     (record { answer = submitted.Refused 1; endpoint = e }, ring, finished, records, packets)

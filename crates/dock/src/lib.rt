@@ -58,31 +58,30 @@ pub struct Endpoint {
     pub work: Work,
 }
 
-// A request. The packet lengths of an isochronous one stand beside it, as a slice.
-pub enum Request {
+// What a request asks for. A control request has its setup's fields.
+pub enum What {
     Control {
-        kind: u8,
+        request_type: u8,
         request: u8,
         value: u16,
         index: u16,
-        address: u64,
-        length: u64,
     },
     Bulk {
         incoming: bool,
-        address: u64,
-        length: u64,
     },
     Interrupt {
         incoming: bool,
-        address: u64,
-        length: u64,
     },
     Isoch {
         incoming: bool,
-        address: u64,
-        length: u64,
     },
+}
+
+// A request: what it asks for, and its buffer's address and length. The packet lengths of an isochronous one stand beside it, as a slice.
+pub struct Request {
+    pub what: What,
+    pub address: u64,
+    pub length: u64,
 }
 
 // The answers. A refusal has document 01's number; `Numbers` in specs/ gives the number and the values of every case.

@@ -8,6 +8,8 @@ use lib.Dec.{eqb}
 use lib.ListN.{length}
 use Rattle.base.specs.First.{pick}
 use Rattle.records.specs.Records.{isSet}
+use Rattle.dock.specs.declared.Identity.{Identity}
+use Rattle.dock.specs.declared.Shape.{Shape}
 use Rattle.dock.specs.Numbers.{outcomeNumber, storedNumber, submittedNumber, takenNumber, resettingNumber, commandNumber, pointedNumber}
 use Rattle.dock.specs.Make.{make}
 use Rattle.dock.specs.Configure.{configure}
@@ -34,10 +36,17 @@ areWords state answer = isState state && eqb (length answer) answerWords
 
 -- ---- building
 
+-- The ring's numbers and the identity, from the numbers that the call is given.
+abbrev pub shapeFrom : ℕ → ℕ → Shape
+shapeFrom slots base = record { slots = slots; base = base }
+
+abbrev pub identityFrom : ℕ → ℕ → ℕ → Identity
+identityFrom mask slot dci = record { slot = slot; dci = dci; mask = mask }
+
 unfoldable pub made : List ℕ → List ℕ → List ℕ → List ℕ → List ℕ → ℕ → ℕ → ℕ → ℕ → ℕ
     → ℕ × List ℕ × List ℕ × List ℕ × List ℕ × List ℕ
 made state ring finished records packets slots base mask slot dci =
-    let m = make ring finished records packets slots base mask slot dci in
+    let m = make ring finished records packets (shapeFrom slots base) (identityFrom mask slot dci) in
     let n = numbered state (m .0) in
     pick (isState state) (n .0, n .1, m .1, m .2, m .3, m .4) (1, state, ring, finished, records, packets)
 

@@ -8,6 +8,8 @@
 // Each function loads the endpoint, makes the call of its name, saves the endpoint and tells the answer; specs/Exported.antt says so, once each.
 ghost use mathlib.Core.Path.{_≡_};
 ghost use Rattle.dock_c.specs.Exported.{made, configured, started, storedOne, submitted, handedOver, reclaimed, cancelled, retired, resetBegun, resetEnded, stopped, resumed, pointed};
+use dock::Identity;
+use dock::Shape;
 use loaded::STATE_WORDS;
 use loaded::load;
 use saved::settle::settle;
@@ -39,17 +41,9 @@ pub extern "C" fn thn_make(
     if state.len() != STATE_WORDS {
         return 1;
     }
-    let m = making::make::make(
-        ring,
-        finished,
-        records,
-        packets,
-        slots,
-        base,
-        mask,
-        slot,
-        dci,
-    );
+    let shape = Shape { slots, base };
+    let who = Identity { slot, dci, mask };
+    let m = making::make::make(ring, finished, records, packets, shape, who);
     settle(state, m)
 }
 

@@ -15,9 +15,11 @@ use Rattle.base.proofs.Chosen.{declines}
 use Rattle.dock.specs.declared.Changed.{Changed}
 use Rattle.dock.specs.declared.Endpoint.{Endpoint}
 use Rattle.dock.specs.declared.Outcome.the-variants.{Refused}
-use Rattle.dock.specs.declared.Request.the-variants.{Isoch}
+use Rattle.dock.specs.declared.Request.{Request}
+use Rattle.dock.specs.declared.What.the-variants.{Isoch}
 use Rattle.dock.specs.Fit.{fitsWith}
 use Rattle.dock.specs.Limits.{packetsSize}
+use Rattle.dock.specs.Requests.{withWhat}
 use Rattle.dock.specs.Start.{crowded, startTests, startNo, start}
 use Rattle.lines.specs.Reader.{keep}
 
@@ -47,12 +49,15 @@ some-no false true c e = omega arith
 some-no false false true e = omega arith
 some-no false false false e = omega arith
 
-module _ (e : Endpoint) (records packets : List ℕ) (incoming : Bool) (address size : ℕ) where
+module _ (e : Endpoint) (records packets : List ℕ) (request : Request) (incoming : Bool) where
+  abbrev iso : Request
+  iso = withWhat request (Isoch incoming)
+
   abbrev refusal : Changed × List ℕ × List ℕ
   refusal = (record { answer = Refused (crowdedNo (not (fitsWith e records && eqb (length packets) packetsSize)) (e .work .busy) (e .flags .reset)); endpoint = e }, records, packets)
 
   crowds : (lengths : List ℕ) → crowded (e .shape .slots) (e .account .outstanding) (max 1 (length lengths)) ≡ true
-      → start e records packets (Isoch incoming address size) lengths ≡ refusal
+      → start e records packets iso lengths ≡ refusal
   unfolding start startNo startTests
   crowds lengths full =
       let a = not (fitsWith e records && eqb (length packets) packetsSize) in
@@ -64,7 +69,7 @@ module _ (e : Endpoint) (records packets : List ℕ) (incoming : Bool) (address 
 
   -- With room for L-1 lengths at least, those beyond the room make no difference.
   pub lengths-without-room : (room : ℕ) (lengths : List ℕ) → e .shape .slots - 1 ≤ room → room ≤ length lengths
-      → start e records packets (Isoch incoming address size) (take room lengths) ≡ start e records packets (Isoch incoming address size) lengths
+      → start e records packets iso (take room lengths) ≡ start e records packets iso lengths
   lengths-without-room room lengths h more =
       let some : length (take room lengths) ≡ room = length-take room lengths ∙ omega arith in
       crowds (take room lengths) (full-by (take room lengths) (omega (arith, some))) ∙ sym (crowds lengths (full-by lengths (omega arith)))

@@ -4,30 +4,32 @@ ghost use Prim.Native.Nat.{_*_, _<_};
 ghost use lib.Dec.{eqb};
 ghost use Rattle.dock.specs.Limits.{limitsHold, ringSize};
 ghost use Rattle.limits.specs.Places.{placeFits, setupFits};
+use dock::Identity;
+use dock::Shape;
 
 // "What a dock may hold": slots, base, slot id and dci.
-pub fn limits_hold(slots: usize, base: u64, slot: u8, dci: u8) -> bool
-    ensures { λ r. ⌜ r ≡ limitsHold slots base slot dci ⌝ }
+pub fn limits_hold(shape: Shape, who: Identity) -> bool
+    ensures { λ r. ⌜ r ≡ limitsHold shape who ⌝ }
 {
-    if slots < 3 {
+    if shape.slots < 3 {
         return false;
     }
-    if 4096 < slots {
+    if 4096 < shape.slots {
         return false;
     }
-    if base % 4096 != 0 {
+    if shape.base % 4096 != 0 {
         return false;
     }
-    if u64::MAX - base < 16 * slots as u64 - 1 {
+    if u64::MAX - shape.base < 16 * shape.slots as u64 - 1 {
         return false;
     }
-    if dci < 1 {
+    if who.dci < 1 {
         return false;
     }
-    if 31 < dci {
+    if 31 < who.dci {
         return false;
     }
-    if slot < 1 {
+    if who.slot < 1 {
         return false;
     }
     true

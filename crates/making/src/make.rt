@@ -34,15 +34,17 @@ fn make_no(
     finished: usize,
     records: usize,
     packets: usize,
-    slots: usize,
-    base: u64,
-    slot: u8,
-    dci: u8,
+    shape: Shape,
+    who: Identity,
 ) -> u32
-    ensures { λ r. ⌜ r ≡ makeNo ring finished records packets slots base slot dci ⌝ }
+    ensures { λ r. ⌜ r ≡ makeNo ring finished records packets shape who ⌝ }
 {
-    let no = base::earlier(0, !limits::limits_hold(slots, base, slot, dci), 13);
-    base::earlier(no, !are_sized(slots, ring, finished, records, packets), 1)
+    let no = base::earlier(0, !limits::limits_hold(shape, who), 13);
+    base::earlier(
+        no,
+        !are_sized(shape.slots, ring, finished, records, packets),
+        1,
+    )
 }
 
 // What a making that was refused gives back.
@@ -80,16 +82,16 @@ pub fn blank() -> Endpoint
 }
 
 // "Place 0, cycle 1, next id 1, next frame, max packet and burst 0, interval 1, no flag set."
-fn fresh(slots: usize, base: u64, mask: u64, slot: u8, dci: u8) -> Endpoint
-    ensures { λ r. ⌜ r ≡ fresh slots base mask slot dci ⌝ }
+fn fresh(shape: Shape, who: Identity) -> Endpoint
+    ensures { λ r. ⌜ r ≡ fresh shape who ⌝ }
 {
     Endpoint {
         at: Position {
             place: 0,
             cycle: true,
         },
-        shape: Shape { slots, base },
-        who: Identity { slot, dci, mask },
+        shape,
+        who,
         periodic: Periodic {
             packet: 0,
             burst: 0,
@@ -135,23 +137,18 @@ pub fn make(
     finished: &mut [u32],
     records: &mut [u64],
     packets: &mut [u64],
-    slots: usize,
-    base: u64,
-    mask: u64,
-    slot: u8,
-    dci: u8,
+    shape: Shape,
+    who: Identity,
 ) -> Changed
-    ensures { λ r. ⌜ (r, now (ring .exit), now (finished .exit), now (records .exit), now (packets .exit)) ≡ make (now (ring .entry)) (now (finished .entry)) (now (records .entry)) (now (packets .entry)) slots base mask slot dci ⌝ }
+    ensures { λ r. ⌜ (r, now (ring .exit), now (finished .exit), now (records .exit), now (packets .exit)) ≡ make (now (ring .entry)) (now (finished .entry)) (now (records .entry)) (now (packets .entry)) shape who ⌝ }
 {
     let no = make_no(
         ring.len(),
         finished.len(),
         records.len(),
         packets.len(),
-        slots,
-        base,
-        slot,
-        dci,
+        shape,
+        who,
     );
     if no != 0 {
         return Changed {
@@ -165,6 +162,6 @@ pub fn make(
     clear64(packets);
     Changed {
         answer: Outcome::Done,
-        endpoint: fresh(slots, base, mask, slot, dci),
+        endpoint: fresh(shape, who),
     }
 }

@@ -27,10 +27,11 @@ use Rattle.records.specs.declared.Record.{Record}
 use Rattle.dock.specs.declared.Endpoint.{Endpoint}
 use Rattle.dock.specs.declared.Periodic.{Periodic}
 use Rattle.dock.specs.declared.Request.{Request}
-use Rattle.dock.specs.declared.Request.the-variants as asks
+use Rattle.dock.specs.declared.What.{What}
+use Rattle.dock.specs.declared.What.the-variants as asks
 use Rattle.dock.specs.Fit.{theTrb}
 use Rattle.dock.specs.Limits.{packetsSize}
-use Rattle.dock.specs.Requests.{bufferOf, required, recordFor}
+use Rattle.dock.specs.Requests.{countFor, bufferOf, required, withWhat, recordFor}
 use Rattle.dock.specs.Start.{tooLong, atLeastOne, writePackets}
 use Rattle.dock.specs.Store.{stepped}
 use Rattle.dock.specs.Stores.{trbCount, trbOf}
@@ -40,73 +41,79 @@ use Rattle.dock.proofs.StartedLaws.{count-is}
 use Rattle.dock.proofs.TestLaws.{by-too-long-control, by-too-long-bulk, by-too-long-interrupt}
 use Rattle.order.specs.Flat.{flat, linkType}
 use Rattle.order.specs.Model.{Plain}
-use Rattle.promise.specs.Requested.{stored, some, controlTrbs, normalTrbs, isochTrbs, trbsOf, typed}
+use Rattle.promise.specs.Requested.{stored, some, controlTrbs, normalTrbs, isochTrbs, trbsFor, trbsOf, typed}
 use Rattle.promise.proofs.Kept.{upcoming}
 use Rattle.promise.proofs.Laid.{bare, bared}
 
 -- ---- control
 
-module _ (kind request value index address size : ℕ) (fits : typed (asks.Control kind request value index address size) ≡ true) where
+module _ (type request value index : ℕ) (given : Request) (fits : typed (asks.Control type request value index) ≡ true) where
+  abbrev address : ℕ
+  address = given .address
+
+  abbrev size : ℕ
+  size = given .length
+
   record Small : Type 0 where
-    kind-small : kind < 2 ^ 8
+    type-small : type < 2 ^ 8
     request-small : request < 2 ^ 8
     value-small : value < 2 ^ 16
     index-small : index < 2 ^ 16
 
   small : Small
   small =
-      let k = both (both (both (by-ltb kind (2 ^ 8)) (by-ltb request (2 ^ 8))) (by-ltb value (2 ^ 16))) (by-ltb index (2 ^ 16)) .so fits in
-      record { kind-small = k .0 .0 .0; request-small = k .0 .0 .1; value-small = k .0 .1; index-small = k .1 }
+      let k = both (both (both (by-ltb type (2 ^ 8)) (by-ltb request (2 ^ 8))) (by-ltb value (2 ^ 16))) (by-ltb index (2 ^ 16)) .so fits in
+      record { type-small = k .0 .0 .0; request-small = k .0 .0 .1; value-small = k .0 .1; index-small = k .1 }
 
   abbrev packed : ℕ
-  packed = kind + request * 2 ^ 8 + value * 2 ^ 16 + index * 2 ^ 32
+  packed = type + request * 2 ^ 8 + value * 2 ^ 16 + index * 2 ^ 32
 
   setup-fields : (size transfer : ℕ)
-      → Setup (bits 0 8 packed) (bits 8 8 packed) (bits 16 16 packed) (bits 32 16 packed) size transfer ≡ Setup kind request value index size transfer
+      → Setup (bits 0 8 packed) (bits 8 8 packed) (bits 16 16 packed) (bits 32 16 packed) size transfer ≡ Setup type request value index size transfer
   setup-fields size transfer =
       let s = small in
-      let after-kind : packed / 2 ^ 8 ≡ request + value * 2 ^ 8 + index * 2 ^ 24 = omega (arith, s .kind-small) in
-      let after-request : packed / 2 ^ 16 ≡ value + index * 2 ^ 16 = omega (arith, s .kind-small, s .request-small) in
-      let after-value : packed / 2 ^ 32 ≡ index = omega (arith, s .kind-small, s .request-small, s .value-small) in
-      let a : bits 0 8 packed ≡ kind = omega (arith, s .kind-small) in
-      let b : bits 8 8 packed ≡ request = ap (λ (n : ℕ). n % 2 ^ 8) after-kind ∙ omega (arith, s .request-small) in
+      let after-type : packed / 2 ^ 8 ≡ request + value * 2 ^ 8 + index * 2 ^ 24 = omega (arith, s .type-small) in
+      let after-request : packed / 2 ^ 16 ≡ value + index * 2 ^ 16 = omega (arith, s .type-small, s .request-small) in
+      let after-value : packed / 2 ^ 32 ≡ index = omega (arith, s .type-small, s .request-small, s .value-small) in
+      let a : bits 0 8 packed ≡ type = omega (arith, s .type-small) in
+      let b : bits 8 8 packed ≡ request = ap (λ (n : ℕ). n % 2 ^ 8) after-type ∙ omega (arith, s .request-small) in
       let c : bits 16 16 packed ≡ value = ap (λ (n : ℕ). n % 2 ^ 16) after-request ∙ omega (arith, s .value-small) in
       let d : bits 32 16 packed ≡ index = ap (λ (n : ℕ). n % 2 ^ 16) after-value ∙ omega (arith, s .index-small) in
       rw (a, b, c, d)
 
-  module _ (lengths : List ℕ) (id place : ℕ) (short : tooLong (asks.Control kind request value index address size) lengths ≡ false)
+  module _ (lengths : List ℕ) (id place : ℕ) (short : tooLong (asks.Control type request value index) size lengths ≡ false)
       (e : Endpoint) (none-stored : e .work .stored ≡ 0) (packets : List ℕ) where
     abbrev v : Record
-    v = recordFor (asks.Control kind request value index address size) lengths id place
+    v = recordFor (withWhat given (asks.Control type request value index)) (length lengths) id place
 
     size-small : size ≤ 65535
     size-small =
-        ⊎-elim (λ (h : 65535 < size). absurd (by-too-long-control kind request value index address size lengths .not-so short h))
+        ⊎-elim (λ (h : 65535 < size). absurd (by-too-long-control type request value index size lengths .not-so short h))
         (λ (h : size ≤ 65535). h) (lt-or-le 65535 size)
 
     no-data : (incoming : Bool) → Status true (not (incoming && false)) ≡ Status true true
     no-data true = refl
     no-data false = refl
 
-    control-none : size ≡ 0 → upcoming 2 e v packets ≡ controlTrbs kind request value index address size (eqb (bits 7 1 kind) 1)
+    control-none : size ≡ 0 → upcoming 2 e v packets ≡ controlTrbs type request value index address size (eqb (bits 7 1 type) 1)
     unfolding upcoming trbOf stepped
-    control-none q = rw (none-stored, q, setup-fields 0 0, no-data (eqb (bits 7 1 kind) 1))
+    control-none q = rw (none-stored, q, setup-fields 0 0, no-data (eqb (bits 7 1 type) 1))
 
     with-data : (incoming : Bool) → (incoming && true) ≡ incoming
     with-data true = refl
     with-data false = refl
 
-    control-some : 0 < size → upcoming 3 e v packets ≡ controlTrbs kind request value index address size (eqb (bits 7 1 kind) 1)
+    control-some : 0 < size → upcoming 3 e v packets ≡ controlTrbs type request value index address size (eqb (bits 7 1 type) 1)
     unfolding upcoming trbOf stepped
     control-some h =
         let none : eqb size 0 ≡ false = ne-eqb size 0 (λ q. omega arith) in
         let more : ltb 0 size ≡ true = lt-ltb 0 size h in
         let word : size % 2 ^ 16 ≡ size = omega (arith, size-small) in
         let field : size % 2 ^ 17 ≡ size = omega (arith, size-small) in
-        rw (none-stored, none, more, word, field, setup-fields size (pick (eqb (bits 7 1 kind) 1) 3 2), with-data (eqb (bits 7 1 kind) 1))
+        rw (none-stored, none, more, word, field, setup-fields size (pick (eqb (bits 7 1 type) 1) 3 2), with-data (eqb (bits 7 1 type) 1))
 
-    control-asked : upcoming (required (asks.Control kind request value index address size) lengths) e v packets
-        ≡ controlTrbs kind request value index address size (eqb (bits 7 1 kind) 1)
+    control-asked : upcoming (required (withWhat given (asks.Control type request value index)) (length lengths)) e v packets
+        ≡ controlTrbs type request value index address size (eqb (bits 7 1 type) 1)
     control-asked =
         ⊎-elim
         (λ (q : size ≡ 0). let none : eqb size 0 ≡ true = eq-eqb size 0 q in ap (λ (n : ℕ). upcoming n e v packets) (rw none refl) ∙ control-none q)
@@ -116,35 +123,35 @@ module _ (kind request value index address size : ℕ) (fits : typed (asks.Contr
 
 -- ---- bulk and interrupt
 
-module _ (incoming : Bool) (address size : ℕ) (lengths : List ℕ) (id place : ℕ) (e : Endpoint) (packets : List ℕ) where
-  normal-asked : (v : Record) → size ≤ 65536
-      → v ≡ recordFor (asks.Bulk incoming address size) lengths id place ⊎ v ≡ recordFor (asks.Interrupt incoming address size) lengths id place
-      → upcoming 1 e v packets ≡ normalTrbs address size
+module _ (incoming : Bool) (given : Request) (lengths : List ℕ) (id place : ℕ) (e : Endpoint) (packets : List ℕ) where
+  normal-asked : (v : Record) → given .length ≤ 65536
+      → v ≡ recordFor (withWhat given (asks.Bulk incoming)) (length lengths) id place ⊎ v ≡ recordFor (withWhat given (asks.Interrupt incoming)) (length lengths) id place
+      → upcoming 1 e v packets ≡ normalTrbs (given .address) (given .length)
   unfolding upcoming trbOf
-  normal-asked v small (inl q) = let field : size % 2 ^ 17 ≡ size = omega arith in rw (q, field)
-  normal-asked v small (inr q) = let field : size % 2 ^ 17 ≡ size = omega arith in rw (q, field)
+  normal-asked v small (inl q) = let field : given .length % 2 ^ 17 ≡ given .length = omega arith in rw (q, field)
+  normal-asked v small (inr q) = let field : given .length % 2 ^ 17 ≡ given .length = omega arith in rw (q, field)
 
-  bulk-asked : tooLong (asks.Bulk incoming address size) lengths ≡ false
-      → upcoming 1 e (recordFor (asks.Bulk incoming address size) lengths id place) packets ≡ normalTrbs address size
+  bulk-asked : tooLong (asks.Bulk incoming) (given .length) lengths ≡ false
+      → upcoming 1 e (recordFor (withWhat given (asks.Bulk incoming)) (length lengths) id place) packets ≡ normalTrbs (given .address) (given .length)
   bulk-asked short =
       normal-asked _
-      (⊎-elim (λ (h : 65536 < size). absurd (by-too-long-bulk incoming address size lengths .not-so short h))
-      (λ (h : size ≤ 65536). h) (lt-or-le 65536 size))
+      (⊎-elim (λ (h : 65536 < given .length). absurd (by-too-long-bulk incoming (given .length) lengths .not-so short h))
+      (λ (h : given .length ≤ 65536). h) (lt-or-le 65536 (given .length)))
       (inl refl)
 
-  interrupt-asked : tooLong (asks.Interrupt incoming address size) lengths ≡ false
-      → upcoming 1 e (recordFor (asks.Interrupt incoming address size) lengths id place) packets ≡ normalTrbs address size
+  interrupt-asked : tooLong (asks.Interrupt incoming) (given .length) lengths ≡ false
+      → upcoming 1 e (recordFor (withWhat given (asks.Interrupt incoming)) (length lengths) id place) packets ≡ normalTrbs (given .address) (given .length)
   interrupt-asked short =
       normal-asked _
-      (⊎-elim (λ (h : 65536 < size). absurd (by-too-long-interrupt incoming address size lengths .not-so short h))
-      (λ (h : size ≤ 65536). h) (lt-or-le 65536 size))
+      (⊎-elim (λ (h : 65536 < given .length). absurd (by-too-long-interrupt incoming (given .length) lengths .not-so short h))
+      (λ (h : given .length ≤ 65536). h) (lt-or-le 65536 (given .length)))
       (inr refl)
 
 -- ---- ISO
 
-module _ (incoming : Bool) (address size : ℕ) (lengths : List ℕ) (id place : ℕ) (packets : List ℕ) where
+module _ (incoming : Bool) (given : Request) (lengths : List ℕ) (id place : ℕ) (packets : List ℕ) where
   abbrev iso : Record
-  iso = recordFor (asks.Isoch incoming address size) lengths id place
+  iso = recordFor (withWhat given (asks.Isoch incoming)) (length lengths) id place
 
   -- The packets from the next one on ask for ns, and there are no others behind them.
   record Asks (e : Endpoint) (ns : List ℕ) : Type 0 where
@@ -203,48 +210,57 @@ all-short (n ∷ ns) short k l = short k l
 
 -- An endpoint that has begun on the request in record r, under an id and from a place, with the request's packets written.
 module _ (lengths : List ℕ) (id place r : ℕ) (packets : List ℕ) (sized : length packets ≡ packetsSize) (within : r < recordCount) (e : Endpoint) (none-stored : e .work .stored ≡ 0) (number : e .work .number ≡ r) where
-  pub asked-for : (request : Request) → tooLong request lengths ≡ false → typed request ≡ true → e .work .address ≡ bufferOf request
-      → upcoming (required request lengths) e (recordFor request lengths id place)
-      (writePackets packets r request lengths) ≡ trbsOf (e .periodic) request lengths
-  asked-for (asks.Control kind request value index address size) short fits at =
-      control-asked kind request value index address size fits lengths id place short e none-stored
-      (writePackets packets r (asks.Control kind request value index address size) lengths)
-  asked-for (asks.Bulk incoming address size) short fits at =
-      bulk-asked incoming address size lengths id place e (writePackets packets r (asks.Bulk incoming address size) lengths) short
-  asked-for (asks.Interrupt incoming address size) short fits at =
-      interrupt-asked incoming address size lengths id place e (writePackets packets r (asks.Interrupt incoming address size) lengths) short
-  asked-for (asks.Isoch incoming address size) short fits at =
-      let request : Request = asks.Isoch incoming address size in
-      let new : List ℕ = writePackets packets r request lengths in
-      let ns = atLeastOne lengths in
-      ap (λ (n : ℕ). upcoming n e (recordFor request lengths id place) new) (sym (at-least lengths))
-      ∙ iso-from incoming address size lengths id place new ns e
-      (record {
-        end = omega (arith, none-stored, at-least lengths, count-is request lengths id place short);
-        sizes = λ j l.
-            let z : e .work .stored + j ≡ j = omega arith in
-            rw (number, z) (ap (λ (p : Packet). p .requested) (packet-written packets r incoming address size lengths sized within short j l));
-        short = all-short lengths (packet-short incoming address size lengths short);
-      })
-      ∙ ap (λ (a : ℕ). isochTrbs incoming (e .periodic .packet) (e .periodic .burst) a ns) at
+  pub asked-for : (request : Request) → tooLong (request .what) (request .length) lengths ≡ false → typed (request .what) ≡ true
+      → e .work .address ≡ bufferOf request
+      → upcoming (required request (length lengths)) e (recordFor request (length lengths) id place)
+      (writePackets packets r (request .what) lengths) ≡ trbsOf (e .periodic) request lengths
+  asked-for given = by (given .what)
+    where
+      by : (what : What) → tooLong what (given .length) lengths ≡ false → typed what ≡ true → e .work .address ≡ bufferOf given
+          → upcoming (countFor what (given .length) (length lengths)) e (recordFor (withWhat given what) (length lengths) id place)
+          (writePackets packets r what lengths) ≡ trbsFor (e .periodic) what (given .address) (given .length) lengths
+      by (asks.Control type request value index) short fits at =
+          control-asked type request value index given fits lengths id place short e none-stored
+          (writePackets packets r (asks.Control type request value index) lengths)
+      by (asks.Bulk incoming) short fits at =
+          bulk-asked incoming given lengths id place e (writePackets packets r (asks.Bulk incoming) lengths) short
+      by (asks.Interrupt incoming) short fits at =
+          interrupt-asked incoming given lengths id place e (writePackets packets r (asks.Interrupt incoming) lengths) short
+      by (asks.Isoch incoming) short fits at =
+          let iso : Request = withWhat given (asks.Isoch incoming) in
+          let new : List ℕ = writePackets packets r (asks.Isoch incoming) lengths in
+          let ns = atLeastOne lengths in
+          ap (λ (n : ℕ). upcoming n e (recordFor iso (length lengths) id place) new) (sym (at-least lengths))
+          ∙ iso-from incoming given lengths id place new ns e
+          (record {
+            end = omega (arith, none-stored, at-least lengths, count-is iso lengths id place short);
+            sizes = λ j l.
+                let z : e .work .stored + j ≡ j = omega arith in
+                rw (number, z) (ap (λ (p : Packet). p .requested) (packet-written packets r incoming (given .length) lengths sized within short j l));
+            short = all-short lengths (packet-short incoming (given .length) lengths short);
+          })
+          ∙ ap (λ (a : ℕ). isochTrbs incoming (e .periodic .packet) (e .periodic .burst) a ns) at
 
 -- As many as the request takes.
 isoch-count : (incoming : Bool) (packet burst address : ℕ) (ns : List ℕ) → length (isochTrbs incoming packet burst address ns) ≡ length ns
 isoch-count incoming packet burst address [] = refl
 isoch-count incoming packet burst address (n ∷ ns) = ap suc (isoch-count incoming packet burst ((address + n) % 2 ^ 64) ns)
 
-control-count : (kind request value index address size : ℕ) (incoming b : Bool) → eqb size 0 ≡ b
-    → length (controlTrbs kind request value index address size incoming) ≡ pick b 2 3
-control-count kind request value index address size incoming true q = rw q
-control-count kind request value index address size incoming false q = rw q
+control-count : (type request value index address size : ℕ) (incoming b : Bool) → eqb size 0 ≡ b
+    → length (controlTrbs type request value index address size incoming) ≡ pick b 2 3
+control-count type request value index address size incoming true q = rw q
+control-count type request value index address size incoming false q = rw q
 
-pub trbs-count : (p : Periodic) (request : Request) (lengths : List ℕ) → length (trbsOf p request lengths) ≡ required request lengths
-trbs-count p (asks.Control kind request value index address size) lengths =
-    control-count kind request value index address size (eqb (bits 7 1 kind) 1) (eqb size 0) refl
-trbs-count p (asks.Bulk incoming address size) lengths = refl
-trbs-count p (asks.Interrupt incoming address size) lengths = refl
-trbs-count p (asks.Isoch incoming address size) lengths =
-    isoch-count incoming (p .packet) (p .burst) (stored address size) (atLeastOne lengths) ∙ at-least lengths
+pub trbs-count : (p : Periodic) (request : Request) (lengths : List ℕ) → length (trbsOf p request lengths) ≡ required request (length lengths)
+trbs-count p request lengths = counted (request .what) (request .address) (request .length)
+  where
+    counted : (what : What) (address size : ℕ) → length (trbsFor p what address size lengths) ≡ countFor what size (length lengths)
+    counted (asks.Control type request value index) address size =
+        control-count type request value index address size (eqb (bits 7 1 type) 1) (eqb size 0) refl
+    counted (asks.Bulk incoming) address size = refl
+    counted (asks.Interrupt incoming) address size = refl
+    counted (asks.Isoch incoming) address size =
+        isoch-count incoming (p .packet) (p .burst) (stored address size) (atLeastOne lengths) ∙ at-least lengths
 
 -- ---- none is a link
 
@@ -257,19 +273,22 @@ module _ (K : ℕ) where
   isoch-plain incoming packet burst address [] = tt
   isoch-plain incoming packet burst address (n ∷ ns) = (plain-trb _ (λ q. omega arith), isoch-plain incoming packet burst ((address + n) % 2 ^ 64) ns)
 
-  control-plain : (kind request value index address size : ℕ) (incoming : Bool)
-      → Plain (flat K) (bared (controlTrbs kind request value index address size incoming))
-  control-plain kind request value index address size incoming =
+  control-plain : (type request value index address size : ℕ) (incoming : Bool)
+      → Plain (flat K) (bared (controlTrbs type request value index address size incoming))
+  control-plain type request value index address size incoming =
       picked (λ (l : List Trb). Plain (flat K) (bared l)) (eqb size 0) _ _
       (λ t. (plain-trb _ (λ q. omega arith), (plain-trb _ (λ q. omega arith), tt)))
       (λ t. (plain-trb _ (λ q. omega arith), (plain-trb _ (λ q. omega arith), (plain-trb _ (λ q. omega arith), tt))))
 
   pub trbs-plain : (p : Periodic) (request : Request) (lengths : List ℕ) → Plain (flat K) (bared (trbsOf p request lengths))
-  trbs-plain p (asks.Control kind request value index address size) lengths =
-      control-plain kind request value index address size (eqb (bits 7 1 kind) 1)
-  trbs-plain p (asks.Bulk incoming address size) lengths = (plain-trb _ (λ q. omega arith), tt)
-  trbs-plain p (asks.Interrupt incoming address size) lengths = (plain-trb _ (λ q. omega arith), tt)
-  trbs-plain p (asks.Isoch incoming address size) lengths = isoch-plain incoming (p .packet) (p .burst) (stored address size) (atLeastOne lengths)
+  trbs-plain p request lengths = plain (request .what) (request .address) (request .length)
+    where
+      plain : (what : What) (address size : ℕ) → Plain (flat K) (bared (trbsFor p what address size lengths))
+      plain (asks.Control type request value index) address size =
+          control-plain type request value index address size (eqb (bits 7 1 type) 1)
+      plain (asks.Bulk incoming) address size = (plain-trb _ (λ q. omega arith), tt)
+      plain (asks.Interrupt incoming) address size = (plain-trb _ (λ q. omega arith), tt)
+      plain (asks.Isoch incoming) address size = isoch-plain incoming (p .packet) (p .burst) (stored address size) (atLeastOne lengths)
 
 pub link-is : (base : ℕ) → linkType (bare (linkTrb base false)) ≡ true
 unfolding linkType

@@ -20,7 +20,11 @@ use Rattle.ring.specs.Ring.{storeAt, isSlot, slotOf}
 use Rattle.finished.specs.Finished.{finishedAt, fillPlace}
 use Rattle.packets.specs.Packets.{packetAt, putPacket}
 use Rattle.records.specs.Records.{recordAt, setWord}
-use Rattle.dock.specs.declared.Request.the-variants.{Control, Bulk, Isoch}
+use Rattle.dock.specs.declared.Identity.{Identity}
+use Rattle.dock.specs.declared.Request.{Request}
+use Rattle.dock.specs.declared.Shape.{Shape}
+use Rattle.dock.specs.declared.What.{What}
+use Rattle.dock.specs.declared.What.the-variants.{Control, Bulk, Isoch}
 use Rattle.dock.specs.Cancel.{cancel, cancelNo, cancelTests}
 use Rattle.dock.specs.Configure.{configure, plainNo, plainTests}
 use Rattle.dock.specs.Fit.{fits, placesFit, strays, fitsWith, nextOf}
@@ -41,21 +45,25 @@ use Rattle.promise.specs.Run as running
 abbrev event : ℕ → Words
 event slot = record { w0 = 0x10000 + 16 * slot; w1 = 0; w2 = 0x1000000; w3 = 0x1018000 }
 
+-- A request at an address, of a length.
+abbrev asking : What → ℕ → ℕ → Request
+asking what address size = record { what = what; address = address; length = size }
+
 -- A bulk request of 64 bytes whose n-th TRB of the run is at a slot, from its start to its reclaim under an id.
 abbrev bulk : ℕ → ℕ → ℕ → List Move
-bulk number slot id = calls (starts (Bulk true 0x30000 64) []) ∷ calls stores ∷ steps ∷ hands (event slot) number ∷ calls (reclaims id) ∷ []
+bulk number slot id = calls (starts (asking (Bulk true) 0x30000 64) []) ∷ calls stores ∷ steps ∷ hands (event slot) number ∷ calls (reclaims id) ∷ []
 
 -- The control request, a step of the controller after each of its five stores, a call that is refused in between, and its end.
 abbrev control : List Move
 control =
-    calls (starts (Control 0x80 6 0x100 0 0x20000 0x12) [])
+    calls (starts (asking (Control 0x80 6 0x100 0) 0x20000 0x12) [])
     ∷ calls stores ∷ steps ∷ calls stores ∷ steps ∷ hands (event 3) 9 ∷ calls stores ∷ steps ∷ calls (configures 1 1 1) ∷ calls stores ∷ steps ∷ calls stores
     ∷ steps ∷ steps ∷ steps ∷ steps ∷ hands (event 1) 5 ∷ calls (reclaims 4) ∷ []
 
 -- An ISO request of two packets, up to the ring's end again. One of its TRBs has an event, it is cancelled, and reclaimed.
 abbrev iso : List Move
 iso =
-    calls (configures 64 0 1) ∷ calls (starts (Isoch true 0x40000 128) (64 ∷ 64 ∷ [])) ∷ calls stores ∷ steps ∷ calls stores ∷ calls stores ∷ steps ∷ steps ∷ hands (event 3) 7 ∷ calls (cancels 5) ∷ calls (reclaims 5) ∷ []
+    calls (configures 64 0 1) ∷ calls (starts (asking (Isoch true) 0x40000 128) (64 ∷ 64 ∷ [])) ∷ calls stores ∷ steps ∷ calls stores ∷ calls stores ∷ steps ∷ steps ∷ hands (event 3) 7 ∷ calls (cancels 5) ∷ calls (reclaims 5) ∷ []
 
 abbrev moves : List Move
 moves = bulk 0 0 1 ++ bulk 1 1 2 ++ bulk 2 2 3 ++ control ++ iso
@@ -63,9 +71,15 @@ moves = bulk 0 0 1 ++ bulk 1 1 2 ++ bulk 2 2 3 ++ control ++ iso
 abbrev tables : ℕ → List ℕ
 tables n = replicate n 0
 
+abbrev shape : Shape
+shape = record { slots = 5; base = 0x10000 }
+
+abbrev who : Identity
+who = record { slot = 1; dci = 1; mask = 0xffffffff }
+
 outset : World
 unfolding makeNo makeTests make sized limitsHold
-outset = fromMaking (madeOf (make (tables 20) (tables 20) (tables 768) (tables 4096) 5 0x10000 0xffffffff 1 1))
+outset = fromMaking (madeOf (make (tables 20) (tables 20) (tables 768) (tables 4096) shape who))
 
 -- The world after the moves, and whether each of them may be made in its turn.
 ended : World × Bool
@@ -86,7 +100,7 @@ run-played w (m ∷ ms) r e =
 
 reached : Run (play outset moves)
 unfolding outset
-reached = run-played outset moves (made (making (tables 20) (tables 20) (tables 768) (tables 4096) 5 0x10000 0xffffffff 1 1 refl)) all-allowed
+reached = run-played outset moves (made (making (tables 20) (tables 20) (tables 768) (tables 4096) shape who refl)) all-allowed
 
 abbrev entry : ℕ → ℕ → ℕ → ℕ → ℕ → Entry
 entry i a b c d = record { at = i; trb = record { w0 = a; w1 = b; w2 = c; w3 = d } }

@@ -15,7 +15,9 @@ use Rattle.trb.specs.Layouts.{wordsAt}
 use Rattle.trb.specs.declared.Words.{Words}
 use Rattle.finished.specs.Finished.{finishedAt}
 use Rattle.finished.specs.declared.Finished.the-variants.{Nothing, Event}
+use Rattle.dock.specs.declared.Identity.{Identity}
 use Rattle.dock.specs.declared.Outcome.the-variants.{Done}
+use Rattle.dock.specs.declared.Shape.{Shape}
 use Rattle.dock.specs.Make.{make, makeNo, makeTests, zeros}
 use Rattle.dock.specs.State.{fresh}
 use Rattle.dock.proofs.BooksLaws.{by-flies}
@@ -44,17 +46,17 @@ zero-type n i = rw (getD-zeros n (4 * i + 3))
 pub never-event : (event : Words) → Nothing ≡ Event event → ⊥
 never-event event e = let z : _≡_ {A = ℕ} 0 1 = cc in omega arith
 
-module _ (ring finished records packets : List ℕ) (slots base mask slot dci : ℕ) where
+module _ (ring finished records packets : List ℕ) (shape : Shape) (who : Identity) where
   abbrev number : ℕ
-  number = makeNo (length ring) (length finished) (length records) (length packets) slots base slot dci
+  number = makeNo (length ring) (length finished) (length records) (length packets) shape who
 
-  fresh-kept : number ≡ 0 → Kept (fromMaking (stateOf (fresh slots base mask slot dci) (zeros ring) (zeros finished) (zeros records) (zeros packets)))
+  fresh-kept : number ≡ 0 → Kept (fromMaking (stateOf (fresh shape who) (zeros ring) (zeros finished) (zeros records) (zeros packets)))
   unfolding makeTests model.made
   fresh-kept passed =
-      let tests = make-exact ring finished records packets slots base mask slot dci .passed passed in
-      let limits = by-limits slots base slot dci .so (not-false _ (tests 0 (omega arith))) in
-      let sizes = by-sized slots (length ring) (length finished) (length records) (length packets) .so (not-false _ (tests 1 (omega arith))) in
-      let K : ℕ = slots - 1 in
+      let tests = make-exact ring finished records packets shape who .passed passed in
+      let limits = by-limits shape who .so (not-false _ (tests 0 (omega arith))) in
+      let sizes = by-sized (shape .slots) (length ring) (length finished) (length records) (length packets) .so (not-false _ (tests 1 (omega arith))) in
+      let K : ℕ = shape .slots - 1 in
       let long : length ring ≡ 4 * suc K = omega (arith, sizes .ring-size, limits .slots-least) in
       record {
         K = K;
@@ -77,14 +79,14 @@ module _ (ring finished records packets : List ℕ) (slots base mask slot dci : 
         };
       }
 
-  done-kept : make ring finished records packets slots base mask slot dci .0 .answer ≡ Done
-      → Kept (fromMaking (madeOf (make ring finished records packets slots base mask slot dci)))
+  done-kept : make ring finished records packets shape who .0 .answer ≡ Done
+      → Kept (fromMaking (madeOf (make ring finished records packets shape who)))
   done-kept done =
       ⊎-elim
-      (λ (p : number ≡ 0). rw (make-acts ring finished records packets slots base mask slot dci p) (fresh-kept p))
+      (λ (p : number ≡ 0). rw (make-acts ring finished records packets shape who p) (fresh-kept p))
       (λ (p : number ≡ 0 → ⊥).
-      absurd (not-done number (sym (ap (λ m. m .0 .answer) (make-refuses ring finished records packets slots base mask slot dci p)) ∙ done)))
+      absurd (not-done number (sym (ap (λ m. m .0 .answer) (make-refuses ring finished records packets shape who p)) ∙ done)))
       (same-or-not number 0)
 
 pub made-kept : (d : State) → Made d → Kept (fromMaking d)
-made-kept d (making ring finished records packets slots base mask slot dci done) = done-kept ring finished records packets slots base mask slot dci done
+made-kept d (making ring finished records packets shape who done) = done-kept ring finished records packets shape who done

@@ -22,9 +22,10 @@ use Rattle.records.specs.Records.{control, inFlight, recordAt}
 use Rattle.records.specs.declared.Record.{Record}
 use Rattle.dock.specs.declared.Endpoint.{Endpoint}
 use Rattle.dock.specs.declared.Request.{Request}
-use Rattle.dock.specs.declared.Request.the-variants as asks
+use Rattle.dock.specs.declared.What.{What}
+use Rattle.dock.specs.declared.What.the-variants as asks
 use Rattle.dock.specs.Fit.{flies}
-use Rattle.dock.specs.Requests.{required, recordFor}
+use Rattle.dock.specs.Requests.{kindOf, required, withWhat, recordFor}
 use Rattle.dock.specs.Start.{startNo, recordTaken, idTaken, charged, writePackets, startedEndpoint, startedRecords}
 use Rattle.dock.specs.Stores.{trbCount}
 use Rattle.dock.proofs.BooksLaws.{by-flies}
@@ -51,38 +52,41 @@ use Rattle.promise.proofs.Laid.{bare, bared, bared-length, bared-append
 -- ---- the record of an admitted request
 
 -- Only a control request is deferred.
-abbrev deferred : Request → Bool
-deferred (asks.Control kind request value index address size) = true
-deferred (asks.Bulk incoming address size) = false
-deferred (asks.Interrupt incoming address size) = false
-deferred (asks.Isoch incoming address size) = false
+abbrev deferred : What → Bool
+deferred (asks.Control type request value index) = true
+deferred (asks.Bulk incoming) = false
+deferred (asks.Interrupt incoming) = false
+deferred (asks.Isoch incoming) = false
 
 -- The count of its record goes by its kind.
-record-counts : (request : Request) (lengths : List ℕ) (id place : ℕ) → Counts (recordFor request lengths id place)
-record-counts (asks.Control kind request value index address size) lengths id place = record {
-  some = required-some (asks.Control kind request value index address size) lengths;
-  of-control = λ q. refl;
-  of-bulk = λ q. absurd (omega arith);
-  of-interrupt = λ q. absurd (omega arith);
-}
-record-counts (asks.Bulk incoming address size) lengths id place = record {
-  some = omega arith;
-  of-control = λ q. absurd (omega arith);
-  of-bulk = λ q. refl;
-  of-interrupt = λ q. absurd (omega arith);
-}
-record-counts (asks.Interrupt incoming address size) lengths id place = record {
-  some = omega arith;
-  of-control = λ q. absurd (omega arith);
-  of-bulk = λ q. absurd (omega arith);
-  of-interrupt = λ q. refl;
-}
-record-counts (asks.Isoch incoming address size) lengths id place = record {
-  some = omega arith;
-  of-control = λ q. absurd (omega arith);
-  of-bulk = λ q. absurd (omega arith);
-  of-interrupt = λ q. absurd (omega arith);
-}
+record-counts : (request : Request) (count id place : ℕ) → Counts (recordFor request count id place)
+record-counts request count id place = counts (request .what)
+  where
+    counts : (what : What) → Counts (recordFor (withWhat request what) count id place)
+    counts (asks.Control type code value index) = record {
+      some = required-some (asks.Control type code value index) (request .length) count;
+      of-control = λ q. refl;
+      of-bulk = λ q. absurd (omega arith);
+      of-interrupt = λ q. absurd (omega arith);
+    }
+    counts (asks.Bulk incoming) = record {
+      some = omega arith;
+      of-control = λ q. absurd (omega arith);
+      of-bulk = λ q. refl;
+      of-interrupt = λ q. absurd (omega arith);
+    }
+    counts (asks.Interrupt incoming) = record {
+      some = omega arith;
+      of-control = λ q. absurd (omega arith);
+      of-bulk = λ q. absurd (omega arith);
+      of-interrupt = λ q. refl;
+    }
+    counts (asks.Isoch incoming) = record {
+      some = omega arith;
+      of-control = λ q. absurd (omega arith);
+      of-bulk = λ q. absurd (omega arith);
+      of-interrupt = λ q. absurd (omega arith);
+    }
 
 -- ---- the records in flight, with one more
 
@@ -155,25 +159,25 @@ cons-of : (l : List Trb) → 0 < length l → (t : Trb) × ((ts : List Trb) × (
 cons-of [] h = absurd (omega arith)
 cons-of (t ∷ ts) h = (t, (ts, refl))
 
-module _ (K : ℕ) (e : Endpoint) (request : Request) (t : Trb) (ts : List Trb) where
+module _ (K : ℕ) (e : Endpoint) (what : What) (t : Trb) (ts : List Trb) where
   abbrev tdOf : Td (flat K)
-  tdOf = record { first = bare t; rest = bared ts; link = linkWords e; deferred = deferred request }
+  tdOf = record { first = bare t; rest = bared ts; link = linkWords e; deferred = deferred what }
 
 -- What is under way after a start: a control request opens; of any other the first TRB will be the controller's at once.
-module _ (K : ℕ) (e : Endpoint) (records packets : List ℕ) (mark before : ℕ) (lengths : List ℕ) (id place : ℕ) (t : Trb) (ts : List Trb)
+module _ (K : ℕ) (e : Endpoint) (records packets : List ℕ) (mark before : ℕ) (t : Trb) (ts : List Trb)
     (taken : e .work .busy ≡ true) (none-stored : e .work .stored ≡ 0) (are : left K e records packets ≡ bare t ∷ bared ts) where
   shown : (recordAt records (e .work .number) .kind ≡ control → ⊥)
       → Under K e records packets mark before (busy (bare t ∷ bared ts) (linkWords e) none)
   shown other =
       shows (record { taken = taken; kind = other; counted = omega arith; is = ap (λ (l : List Words). busy l (linkWords e) none) (sym are) })
 
-  under-way : (request : Request) → recordAt records (e .work .number) ≡ recordFor request lengths id place
+  under-way : (what : What) → recordAt records (e .work .number) .kind ≡ kindOf what
       → record { place = e .work .place; cycle = e .work .cycle } ≡ positionOf (e .at) → before ≡ mark
-      → Under K e records packets mark before (starts (tdOf K e request t ts) (deferred request))
-  under-way (asks.Control kind request value index address size) written at marked =
+      → Under K e records packets mark before (starts (tdOf K e what t ts) (deferred what))
+  under-way (asks.Control type request value index) written at marked =
       opens (record {
         taken = taken;
-        kind = ap (λ (x : Record). x .kind) written;
+        kind = written;
         none-stored = none-stored;
         at-setup = at;
         setup = bare t;
@@ -182,13 +186,13 @@ module _ (K : ℕ) (e : Endpoint) (records packets : List ℕ) (mark before : �
         marked = marked;
         is = refl;
       })
-  under-way (asks.Bulk incoming address size) written at marked = shown (λ q. omega (arith, ap (λ (x : Record). x .kind) written))
-  under-way (asks.Interrupt incoming address size) written at marked = shown (λ q. omega (arith, ap (λ (x : Record). x .kind) written))
-  under-way (asks.Isoch incoming address size) written at marked = shown (λ q. omega (arith, ap (λ (x : Record). x .kind) written))
+  under-way (asks.Bulk incoming) written at marked = shown (λ q. omega (arith, written))
+  under-way (asks.Interrupt incoming) written at marked = shown (λ q. omega (arith, written))
+  under-way (asks.Isoch incoming) written at marked = shown (λ q. omega (arith, written))
 
 -- ---- an admitted start
 
-module _ (w : World) (request : Request) (lengths : List ℕ) (h : Sound (w .dock)) (k : Kept w) (fits : typed request ≡ true)
+module _ (w : World) (request : Request) (lengths : List ℕ) (h : Sound (w .dock)) (k : Kept w) (fits : typed (request .what) ≡ true)
     (passed : startNo (w .dock .endpoint) (w .dock .records) (length (w .dock .packets)) request lengths ≡ 0) where
   abbrev e : Endpoint
   e = w .dock .endpoint
@@ -212,12 +216,12 @@ module _ (w : World) (request : Request) (lengths : List ℕ) (h : Sound (w .doc
   records = startedRecords e old request lengths
 
   abbrev packets : List ℕ
-  packets = writePackets (w .dock .packets) r request lengths
+  packets = writePackets (w .dock .packets) r (request .what) lengths
 
   s : Starting e old (w .dock .packets) request lengths
   s = start-admitted e old (w .dock .packets) request lengths passed
 
-  written : recordAt records r ≡ recordFor request lengths id (e .at .place)
+  written : recordAt records r ≡ recordFor request (length lengths) id (e .at .place)
   written = record-written e old (w .dock .packets) request lengths passed
 
   some-place : 0 < k .K
@@ -236,7 +240,7 @@ module _ (w : World) (request : Request) (lengths : List ℕ) (h : Sound (w .doc
   to-store : left (k .K) begunWith records packets ≡ bared trbs
   unfolding startedEndpoint
   to-store =
-      let count : trbCount (recordFor request lengths id (e .at .place)) - 0 ≡ required request lengths =
+      let count : trbCount (recordFor request (length lengths) id (e .at .place)) - 0 ≡ required request (length lengths) =
       omega (arith, count-is request lengths id (e .at .place) (s .short)) in
       rw (written, count)
       (ap bared
@@ -249,9 +253,9 @@ module _ (w : World) (request : Request) (lengths : List ℕ) (h : Sound (w .doc
   started-with t ts are =
       let K = k .K in
       let m = modelIn K w (k .before) (k .work) in
-      let td = tdOf K e request t ts in
+      let td = tdOf K e (request .what) t ts in
       let total = length (w .trbs) in
-      let count : length trbs ≡ required request lengths = trbs-count (e .periodic) request lengths in
+      let count : length trbs ≡ required request (length lengths) = trbs-count (e .periodic) request lengths in
       let count-t : length trbs ≡ suc (length ts) = ap length are in
       let bare-t : length (bared ts) ≡ length ts = bared-length ts in
       let before = length (model.layout (flat K) (pos K 0) (bared (w .trbs))) in
@@ -268,52 +272,52 @@ module _ (w : World) (request : Request) (lengths : List ℕ) (h : Sound (w .doc
       let joined : bared (w .trbs) ++ bare t ∷ bared ts ≡ bared (w .trbs ++ trbs) =
       sym (bared-append (w .trbs) trbs ∙ ap (λ (l : List Trb). bared (w .trbs) ++ bared l) are) in
       let same : begin m td ≡ modelIn K (withTrbs w (stateOf begunWith (w .dock .ring) (w .dock .finished) records packets) r trbs) before
-      (starts td (deferred request)) =
-      ap₂ (λ (a : List (model.Entry (flat K))) (o : ℕ). model.booked m (starts td (deferred request)) a before o)
+      (starts td (deferred (request .what))) =
+      ap₂ (λ (a : List (model.Entry (flat K))) (o : ℕ). model.booked m (starts td (deferred (request .what))) a before o)
       (num .by-number ∙ ap (model.layout (flat K) (pos K 0)) joined) (omega arith) in
       let all = all-stored w k (s .resting) in
       let here : withFirst (w .first) r total r ≡ total = (let q : eqb r r ≡ true = eq-eqb r r refl in rw q refl) in
-      let its : trbCount (recordAt records r) ≡ required request lengths =
+      let its : trbCount (recordAt records r) ≡ required request (length lengths) =
       ap trbCount written ∙ count-is request lengths id (e .at .place) (s .short) in
       let last : withFirst (w .first) r total r + trbCount (recordAt records r) ≡ length (w .trbs ++ trbs) =
       omega (arith, length-append (w .trbs) trbs) in
       let is-taken = record-taken e old (w .dock .packets) request lengths passed in
-      let longer : length (w .trbs ++ trbs) ≡ total + required request lengths = omega (arith, length-append (w .trbs) trbs) in
+      let longer : length (w .trbs ++ trbs) ≡ total + required request (length lengths) = omega (arith, length-append (w .trbs) trbs) in
       record {
         K = K;
         some-slot = k .some-slot;
         shape = k .shape;
         link-slot = k .link-slot;
         before = before;
-        work = starts td (deferred request);
+        work = starts td (deferred (request .what));
         inv = subst (λ (x : model.State (flat K)). Inv x) same inv;
         numbered = subst (λ (x : model.State (flat K)). Numbered x (bared (w .trbs ++ trbs))) same (rw joined at num);
         under =
-            under-way K begunWith records packets (withFirst (w .first) r total r) before lengths id
-            (e .at .place) t ts refl refl (to-store ∙ ap bared are) request written refl
+            under-way K begunWith records packets (withFirst (w .first) r total r) before
+            t ts refl refl (to-store ∙ ap bared are) (request .what) (ap (λ (x : Record). x .kind) written) refl
             (length-layout (flat K) (pos K 0) (bared (w .trbs)) ∙ bared-length (w .trbs) ∙ sym here);
         begun = λ b. record { last = last; first-at = ap (λ (n : ℕ). (pos K n) .place) here ∙ producer-at };
         stored = k .stored;
-        split = rw (starts-pending td (deferred request)) (omega arith);
+        split = rw (starts-pending td (deferred (request .what))) (omega arith);
         heard-consumed = k .heard-consumed;
         places = k .places;
         flights = rw longer
             (flights-taken K old records (e .account .occupancy) (begunWith .account .occupancy) (w .first) total
-            (w .heard) r (recordFor request lengths id (e .at .place))
+            (w .heard) r (recordFor request (length lengths) id (e .at .place))
             (record-below e old (w .dock .packets) request lengths passed) (record-free e old (w .dock .packets) request lengths passed)
             (is-taken .here) (is-taken .others)
             written (records-kept e old (w .dock .packets) request lengths passed) refl producer-at
-            (record-counts request lengths id (e .at .place)) (k .flights));
+            (record-counts request (length lengths) id (e .at .place)) (k .flights));
       }
 
   pub admitted-kept : Kept (withTrbs w (stateOf begunWith (w .dock .ring) (w .dock .finished) records packets) r trbs)
   admitted-kept =
-      let c = cons-of trbs (omega (arith, trbs-count (e .periodic) request lengths, required-some request lengths)) in
+      let c = cons-of trbs (omega (arith, trbs-count (e .periodic) request lengths, required-some (request .what) (request .length) (length lengths))) in
       started-with (c .0) (c .1 .0) (c .1 .1)
 
 -- ---- the call
 
-pub started-kept : (w : World) (request : Request) (lengths : List ℕ) → Sound (w .dock) → Kept w → typed request ≡ true
+pub started-kept : (w : World) (request : Request) (lengths : List ℕ) → Sound (w .dock) → Kept w → typed (request .what) ≡ true
     → Kept (act w (calls (dock.starts request lengths)))
 unfolding admits
 started-kept w request lengths h k fits =

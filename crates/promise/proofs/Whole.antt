@@ -15,8 +15,10 @@ use Rattle.base.proofs.Decide.{if-so, both, by-eqb}
 use Rattle.ids.proofs.AnyLaws.{true-or-false}
 use Rattle.dock.specs.declared.Changed.{Changed}
 use Rattle.dock.specs.declared.Endpoint.{Endpoint}
+use Rattle.dock.specs.declared.Identity.{Identity}
 use Rattle.dock.specs.declared.ReclaimedOne.{ReclaimedOne}
 use Rattle.dock.specs.declared.Request.{Request}
+use Rattle.dock.specs.declared.Shape.{Shape}
 use Rattle.dock.specs.declared.Stored.{Stored}
 use Rattle.dock.specs.declared.StoredAll.{StoredAll}
 use Rattle.dock.specs.declared.StoredOne.{StoredOne}
@@ -162,12 +164,12 @@ module _ (w : World) (h : Sound (w .dock)) (request : Request) (lengths : List �
       (by-eqb (length (s .finished)) (ringSize (s .endpoint .shape .slots))))
       (h .ringLong, h .finishedLong)
 
-  stored-dock : submitted w request lengths pauses .dock ≡ afterFinish (mostStores request lengths) (after s (starts request lengths))
+  stored-dock : submitted w request lengths pauses .dock ≡ afterFinish (mostStores request (length lengths)) (after s (starts request lengths))
   unfolding submitted
   stored-dock =
-      storing-dock (mostStores request lengths) pauses (act w (calls (starts request lengths)))
-      ∙ ap (storesOf (mostStores request lengths)) (started-dock w request lengths)
-      ∙ stores-finish (mostStores request lengths) (after s (starts request lengths))
+      storing-dock (mostStores request (length lengths)) pauses (act w (calls (starts request lengths)))
+      ∙ ap (storesOf (mostStores request (length lengths))) (started-dock w request lengths)
+      ∙ stores-finish (mostStores request (length lengths)) (after s (starts request lengths))
 
   abbrev passes : Type 0
   passes = startNo (s .endpoint) (s .records) (length (s .packets)) request lengths ≡ 0
@@ -176,7 +178,7 @@ module _ (w : World) (h : Sound (w .dock)) (request : Request) (lengths : List �
   unfolding afterFinish
   admitted-is p =
       stored-dock
-      ∙ ap (λ (a : Changed × List ℕ × List ℕ). afterFinish (mostStores request lengths)
+      ∙ ap (λ (a : Changed × List ℕ × List ℕ). afterFinish (mostStores request (length lengths))
       (stateOf (a .0 .endpoint) (s .ring) (s .finished) (a .1) (a .2)))
       (start-acts (s .endpoint) (s .records) (s .packets) request lengths p)
       ∙ ap (λ (a : StoredAll × List ℕ × List ℕ × List ℕ × List ℕ). stateOf (a .0 .endpoint) (a .1) (a .2) (a .3) (a .4))
@@ -189,9 +191,9 @@ module _ (w : World) (h : Sound (w .dock)) (request : Request) (lengths : List �
         let same : after s (starts request lengths) ≡ s =
         ap (λ (a : Changed × List ℕ × List ℕ). stateOf (a .0 .endpoint) (s .ring) (s .finished) (a .1) (a .2))
         (start-refuses (s .endpoint) (s .records) (s .packets) request lengths p) in
-        storing-dock (mostStores request lengths) pauses (act w (calls (starts request lengths)))
-        ∙ ap (storesOf (mostStores request lengths)) (started-dock w request lengths ∙ same)
-        ∙ stays (mostStores request lengths) s (rest-stays s free)
+        storing-dock (mostStores request (length lengths)) pauses (act w (calls (starts request lengths)))
+        ∙ ap (storesOf (mostStores request (length lengths))) (started-dock w request lengths ∙ same)
+        ∙ stays (mostStores request (length lengths)) s (rest-stays s free)
         ∙ sym
         (ap (λ (a : StoredAll × List ℕ × List ℕ × List ℕ × List ℕ). stateOf (a .0 .endpoint) (a .1) (a .2) (a .3) (a .4))
         (submit-refuses (s .endpoint) (s .ring) (s .finished) (s .records) (s .packets) request lengths fit p))
@@ -226,11 +228,11 @@ unfolding storing
 storing-run zero pauses w r = r
 storing-run (suc n) pauses w r = storing-run n pauses (act (stepping (pauses n) w) (calls stores)) (run.andThen (stepping-run (pauses n) w r) (calls stores) refl)
 
-submitted-run : (w : World) (request : Request) (lengths : List ℕ) (pauses : ℕ → ℕ) → typed request ≡ true
+submitted-run : (w : World) (request : Request) (lengths : List ℕ) (pauses : ℕ → ℕ) → typed (request .what) ≡ true
     → Run w → Run (submitted w request lengths pauses)
 unfolding submitted
 submitted-run w request lengths pauses fits r =
-    storing-run (mostStores request lengths) pauses (act w (calls (starts request lengths))) (run.andThen r (calls (starts request lengths)) fits)
+    storing-run (mostStores request (length lengths)) pauses (act w (calls (starts request lengths))) (run.andThen r (calls (starts request lengths)) fits)
 
 pub whole-run : {w : World} → WholeRun w → Run w
 whole-run (made m) = run.made m
@@ -281,9 +283,9 @@ between-rests w steps other free = free
 
 made-rests : (d : State) → Made d → d .endpoint .work .busy ≡ false
 unfolding make
-made-rests d (making ring finished records packets slots base mask slot dci done) =
+made-rests d (making ring finished records packets shape who done) =
     picked (λ (t : Changed × List ℕ × List ℕ × List ℕ × List ℕ). madeOf t .endpoint .work .busy ≡ false)
-    (eqb (makeNo (length ring) (length finished) (length records) (length packets) slots base slot dci) 0) _ _ (λ t. refl) (λ t. refl)
+    (eqb (makeNo (length ring) (length finished) (length records) (length packets) shape who) 0) _ _ (λ t. refl) (λ t. refl)
 
 pub whole-rests : {w : World} → WholeRun w → w .dock .endpoint .work .busy ≡ false
 whole-rests (made {d} m) = made-rests d m

@@ -11,7 +11,8 @@ use Rattle.trb.specs.declared.Trb.{Trb}
 use Rattle.trb.specs.declared.Trb.the-variants.{Normal, Setup, Data, Status, Isoch}
 use Rattle.dock.specs.declared.Periodic.{Periodic}
 use Rattle.dock.specs.declared.Request.{Request}
-use Rattle.dock.specs.declared.Request.the-variants as asks
+use Rattle.dock.specs.declared.What.{What}
+use Rattle.dock.specs.declared.What.the-variants as asks
 use Rattle.dock.specs.Start.{atLeastOne}
 use Rattle.promise.specs.Controller.{Entry}
 
@@ -23,10 +24,10 @@ stored address size = pick (eqb size 0) 0 address
 
 -- "Setup: bits 16-17 = 0 no data, 2 out, 3 in. Data: short interrupt and bit 16 when in. Status: bit 16 clear exactly for in with data."
 abbrev pub controlTrbs : ℕ → ℕ → ℕ → ℕ → ℕ → ℕ → Bool → List Trb
-controlTrbs kind request value index address size incoming =
+controlTrbs type request value index address size incoming =
     pick (eqb size 0)
-    (Setup kind request value index 0 0 ∷ Status true true ∷ [])
-    (Setup kind request value index size (pick incoming 3 2) ∷ Data address size incoming incoming ∷ Status true (not incoming) ∷ [])
+    (Setup type request value index 0 0 ∷ Status true true ∷ [])
+    (Setup type request value index size (pick incoming 3 2) ∷ Data address size incoming incoming ∷ Status true (not incoming) ∷ [])
 
 -- "Normal: address, length, w3 bits 2 and 5."
 abbrev pub normalTrbs : ℕ → ℕ → List Trb
@@ -45,18 +46,21 @@ isochTrbs incoming packet burst address (n ∷ ns) =
     ∷ isochTrbs incoming packet burst ((address + n) % 2 ^ 64) ns
 
 -- The TRBs of a request that is submitted under these periodic settings. "Request type (bit 7 is in)." "No packets means one packet of length 0."
+abbrev pub trbsFor : Periodic → What → ℕ → ℕ → List ℕ → List Trb
+trbsFor p (asks.Control type request value index) address size lengths = controlTrbs type request value index address size (eqb (bits 7 1 type) 1)
+trbsFor p (asks.Bulk incoming) address size lengths = normalTrbs address size
+trbsFor p (asks.Interrupt incoming) address size lengths = normalTrbs address size
+trbsFor p (asks.Isoch incoming) address size lengths = isochTrbs incoming (p .packet) (p .burst) (stored address size) (atLeastOne lengths)
+
 abbrev pub trbsOf : Periodic → Request → List ℕ → List Trb
-trbsOf p (asks.Control kind request value index address size) lengths = controlTrbs kind request value index address size (eqb (bits 7 1 kind) 1)
-trbsOf p (asks.Bulk incoming address size) lengths = normalTrbs address size
-trbsOf p (asks.Interrupt incoming address size) lengths = normalTrbs address size
-trbsOf p (asks.Isoch incoming address size) lengths = isochTrbs incoming (p .packet) (p .burst) (stored address size) (atLeastOne lengths)
+trbsOf p request lengths = trbsFor p (request .what) (request .address) (request .length) lengths
 
 -- The setup's fields are numbers of their types: u8, u8, u16, u16.
-abbrev pub typed : Request → Bool
-typed (asks.Control kind request value index address size) = ltb kind (2 ^ 8) && ltb request (2 ^ 8) && ltb value (2 ^ 16) && ltb index (2 ^ 16)
-typed (asks.Bulk incoming address size) = true
-typed (asks.Interrupt incoming address size) = true
-typed (asks.Isoch incoming address size) = true
+abbrev pub typed : What → Bool
+typed (asks.Control type request value index) = ltb type (2 ^ 8) && ltb request (2 ^ 8) && ltb value (2 ^ 16) && ltb index (2 ^ 16)
+typed (asks.Bulk incoming) = true
+typed (asks.Interrupt incoming) = true
+typed (asks.Isoch incoming) = true
 
 -- ---- where they stand
 

@@ -17,6 +17,7 @@ use Rattle.ring.specs.Ring.{slotAddress}
 use Rattle.records.specs.Records.{recordAt}
 use Rattle.records.specs.declared.Record.{Record}
 use Rattle.dock.specs.declared.Request.{Request}
+use Rattle.dock.specs.declared.Shape.{Shape}
 use Rattle.dock.specs.HandOver.{handOverNo}
 use Rattle.dock.specs.Reclaim.{codeOf}
 use Rattle.dock.specs.Run.{State, Made, Call, configures, starts, stores, submits, reclaims, cancels, retires, begins, ends, stops, resumes, points, after}
@@ -161,7 +162,7 @@ isFor w event n =
 
 -- A request's setup fields are numbers of their types.
 abbrev pub wellTyped : Part → Bool
-wellTyped (opening request lengths) = typed request
+wellTyped (opening request lengths) = typed (request .what)
 wellTyped filling = true
 wellTyped aside = true
 wellTyped outside = true

@@ -3,6 +3,7 @@ use Prim.Native.Nat.{ℕ, zero, suc}
 use mathlib.Core.Bool.{Bool, true, false}
 use mathlib.Core.List.{List}
 use mathlib.Core.Path.{_≡_}
+use lib.ListN.{length}
 use Rattle.dock.specs.declared.Request.{Request}
 use Rattle.dock.specs.Run.{State, Made, starts, stores}
 use Rattle.dock.specs.Submit.{mostStores}
@@ -16,7 +17,7 @@ storing (suc n) pauses w = storing n pauses (act (stepping (pauses n) w) (calls 
 
 -- A whole submission: the start, and at least as many stores as it takes. A store with none under way is refused, and changes nothing.
 unfoldable pub submitted : World → Request → List ℕ → (ℕ → ℕ) → World
-submitted w request lengths pauses = storing (mostStores request lengths) pauses (act w (calls (starts request lengths)))
+submitted w request lengths pauses = storing (mostStores request (length lengths)) pauses (act w (calls (starts request lengths)))
 
 -- The other moves.
 abbrev pub isAside : Part → Bool
@@ -33,5 +34,5 @@ between steps = true
 pub data WholeRun : World → Type 0 where
   made : {d : State} → Made d → WholeRun (fromMaking d)
   andThen : {w : World} → WholeRun w → (m : Move) → between m ≡ true → may w m ≡ true → WholeRun (act w m)
-  andSubmits : {w : World} → WholeRun w → (request : Request) (lengths : List ℕ) (pauses : ℕ → ℕ) → typed request ≡ true
+  andSubmits : {w : World} → WholeRun w → (request : Request) (lengths : List ℕ) (pauses : ℕ → ℕ) → typed (request .what) ≡ true
       → WholeRun (submitted w request lengths pauses)

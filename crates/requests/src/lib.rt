@@ -3,168 +3,65 @@ ghost use mathlib.Core.Path.{_≡_};
 ghost use Prim.Native.Nat.{_+_, _*_, _^_, max};
 ghost use lib.Dec.{eqb};
 ghost use Rattle.base.specs.First.{pick};
-ghost use Rattle.dock.specs.Requests.{kindOf, incomingOf, addressOf, lengthOf, setupOf, bufferOf};
-ghost use Rattle.requests.specs.Counts.{givenBy, requiredBy, recordBy};
+ghost use Rattle.dock.specs.Requests.{kindOf, incomingOf, setupOf, givenOf, required, bufferOf, recordFor};
 use dock::Request;
+use dock::What;
 use records::Record;
 
-pub fn kind_of(request: Request) -> u64
-    ensures { λ r. ⌜ r ≡ kindOf request ⌝ }
+pub fn kind_of(what: What) -> u64
+    ensures { λ r. ⌜ r ≡ kindOf what ⌝ }
 {
-    match request {
-        Request::Control {
-            kind: _,
+    match what {
+        What::Control {
+            request_type: _,
             request: _,
             value: _,
             index: _,
-            address: _,
-            length: _,
         } => checks::CONTROL,
-        Request::Bulk {
-            incoming: _,
-            address: _,
-            length: _,
-        } => checks::BULK,
-        Request::Interrupt {
-            incoming: _,
-            address: _,
-            length: _,
-        } => checks::INTERRUPT,
-        Request::Isoch {
-            incoming: _,
-            address: _,
-            length: _,
-        } => checks::ISOCH,
+        What::Bulk { incoming: _ } => checks::BULK,
+        What::Interrupt { incoming: _ } => checks::INTERRUPT,
+        What::Isoch { incoming: _ } => checks::ISOCH,
     }
 }
 
 // "Request type (bit 7 is in)."
-pub fn incoming_of(request: Request) -> bool
-    ensures { λ r. ⌜ r ≡ incomingOf request ⌝ }
+pub fn incoming_of(what: What) -> bool
+    ensures { λ r. ⌜ r ≡ incomingOf what ⌝ }
 {
-    match request {
-        Request::Control {
-            kind,
+    match what {
+        What::Control {
+            request_type,
             request: _,
             value: _,
             index: _,
-            address: _,
-            length: _,
-        } => kind / 128 % 2 == 1,
-        Request::Bulk {
-            incoming,
-            address: _,
-            length: _,
-        } => incoming,
-        Request::Interrupt {
-            incoming,
-            address: _,
-            length: _,
-        } => incoming,
-        Request::Isoch {
-            incoming,
-            address: _,
-            length: _,
-        } => incoming,
-    }
-}
-
-pub fn address_of(request: Request) -> u64
-    ensures { λ r. ⌜ r ≡ addressOf request ⌝ }
-{
-    match request {
-        Request::Control {
-            kind: _,
-            request: _,
-            value: _,
-            index: _,
-            address,
-            length: _,
-        } => address,
-        Request::Bulk {
-            incoming: _,
-            address,
-            length: _,
-        } => address,
-        Request::Interrupt {
-            incoming: _,
-            address,
-            length: _,
-        } => address,
-        Request::Isoch {
-            incoming: _,
-            address,
-            length: _,
-        } => address,
-    }
-}
-
-// The data length; of an ISO request the buffer length.
-pub fn length_of(request: Request) -> u64
-    ensures { λ r. ⌜ r ≡ lengthOf request ⌝ }
-{
-    match request {
-        Request::Control {
-            kind: _,
-            request: _,
-            value: _,
-            index: _,
-            address: _,
-            length,
-        } => length,
-        Request::Bulk {
-            incoming: _,
-            address: _,
-            length,
-        } => length,
-        Request::Interrupt {
-            incoming: _,
-            address: _,
-            length,
-        } => length,
-        Request::Isoch {
-            incoming: _,
-            address: _,
-            length,
-        } => length,
+        } => request_type / 128 % 2 == 1,
+        What::Bulk { incoming } => incoming,
+        What::Interrupt { incoming } => incoming,
+        What::Isoch { incoming } => incoming,
     }
 }
 
 // The setup's fields in one number, low byte first.
-fn setup_number(kind: u8, request: u8, value: u16, index: u16) -> u64
-    ensures { λ r. ⌜ r ≡ kind + request * 2 ^ 8 + value * 2 ^ 16 + index * 2 ^ 32 ⌝ }
+fn setup_number(request_type: u8, request: u8, value: u16, index: u16) -> u64
+    ensures { λ r. ⌜ r ≡ «request_type» + request * 2 ^ 8 + value * 2 ^ 16 + index * 2 ^ 32 ⌝ }
 {
-    let bytes = kind as u64 + request as u64 * 0x100;
+    let bytes = request_type as u64 + request as u64 * 0x100;
     bytes + value as u64 * 0x1_0000 + index as u64 * 0x1_0000_0000
 }
 
-pub fn setup_of(request: Request) -> u64
-    ensures { λ r. ⌜ r ≡ setupOf request ⌝ }
+pub fn setup_of(what: What) -> u64
+    ensures { λ r. ⌜ r ≡ setupOf what ⌝ }
 {
-    match request {
-        Request::Control {
-            kind,
+    match what {
+        What::Control {
+            request_type,
             request,
             value,
             index,
-            address: _,
-            length: _,
-        } => setup_number(kind, request, value, index),
-        Request::Bulk {
-            incoming: _,
-            address: _,
-            length: _,
-        } => 0,
-        Request::Interrupt {
-            incoming: _,
-            address: _,
-            length: _,
-        } => 0,
-        Request::Isoch {
-            incoming: _,
-            address: _,
-            length: _,
-        } => 0,
+        } => setup_number(request_type, request, value, index),
+        What::Bulk { incoming: _ } => 0,
+        What::Interrupt { incoming: _ } => 0,
+        What::Isoch { incoming: _ } => 0,
     }
 }
 
@@ -172,41 +69,26 @@ pub fn setup_of(request: Request) -> u64
 pub fn buffer_of(request: Request) -> u64
     ensures { λ r. ⌜ r ≡ bufferOf request ⌝ }
 {
-    let length = length_of(request);
-    if length == 0 {
+    if request.length == 0 {
         return 0;
     }
-    address_of(request)
+    request.address
 }
 
 // The packets given with a request, of so many lengths.
-pub fn given_of(request: Request, count: usize) -> u64
-    ensures { λ r. ⌜ r ≡ givenBy request count ⌝ }
+pub fn given_of(what: What, count: usize) -> u64
+    ensures { λ r. ⌜ r ≡ givenOf what count ⌝ }
 {
-    match request {
-        Request::Control {
-            kind: _,
+    match what {
+        What::Control {
+            request_type: _,
             request: _,
             value: _,
             index: _,
-            address: _,
-            length: _,
         } => 0,
-        Request::Bulk {
-            incoming: _,
-            address: _,
-            length: _,
-        } => 0,
-        Request::Interrupt {
-            incoming: _,
-            address: _,
-            length: _,
-        } => 0,
-        Request::Isoch {
-            incoming: _,
-            address: _,
-            length: _,
-        } => count as u64,
+        What::Bulk { incoming: _ } => 0,
+        What::Interrupt { incoming: _ } => 0,
+        What::Isoch { incoming: _ } => count as u64,
     }
 }
 
@@ -232,51 +114,39 @@ fn one_or_more(count: usize) -> u64
 
 // The TRBs that a request takes.
 pub fn required_of(request: Request, count: usize) -> u64
-    ensures { λ r. ⌜ r ≡ requiredBy request count ⌝ }
+    ensures { λ r. ⌜ r ≡ required request count ⌝ }
 {
-    match request {
-        Request::Control {
-            kind: _,
+    let what = request.what;
+    match what {
+        What::Control {
+            request_type: _,
             request: _,
             value: _,
             index: _,
-            address: _,
-            length,
-        } => stages(length),
-        Request::Bulk {
-            incoming: _,
-            address: _,
-            length: _,
-        } => 1,
-        Request::Interrupt {
-            incoming: _,
-            address: _,
-            length: _,
-        } => 1,
-        Request::Isoch {
-            incoming: _,
-            address: _,
-            length: _,
-        } => one_or_more(count),
+        } => stages(request.length),
+        What::Bulk { incoming: _ } => 1,
+        What::Interrupt { incoming: _ } => 1,
+        What::Isoch { incoming: _ } => one_or_more(count),
     }
 }
 
 // The record that is kept of a request under an id, its first TRB at a place.
 pub fn record_for(request: Request, count: usize, id: u64, place: usize) -> Record
-    ensures { λ r. ⌜ r ≡ recordBy request count id place ⌝ }
+    ensures { λ r. ⌜ r ≡ recordFor request count id place ⌝ }
 {
+    let what = request.what;
     Record {
         id,
-        kind: kind_of(request),
-        incoming: incoming_of(request),
+        kind: kind_of(what),
+        incoming: incoming_of(what),
         state: records::IN_FLIGHT,
         cancelled: false,
         address: buffer_of(request),
-        length: length_of(request),
-        setup: setup_of(request),
+        length: request.length,
+        setup: setup_of(what),
         place: place as u64,
         count: required_of(request, count),
-        given: given_of(request, count),
+        given: given_of(what, count),
         recorded: 0,
     }
 }

@@ -13,9 +13,11 @@ use Rattle.base.proofs.Decide.{both, by-eqb}
 use Rattle.records.specs.declared.Record.{Record}
 use Rattle.dock.specs.declared.Changed.{Changed}
 use Rattle.dock.specs.declared.Endpoint.{Endpoint}
+use Rattle.dock.specs.declared.Identity.{Identity}
 use Rattle.dock.specs.declared.Reclaimed.{Reclaimed}
 use Rattle.dock.specs.declared.Reclaimed.the-variants as reclaimed
 use Rattle.dock.specs.declared.Request.{Request}
+use Rattle.dock.specs.declared.Shape.{Shape}
 use Rattle.dock.specs.declared.Stored.the-variants.{Slot, Last}
 use Rattle.dock.specs.declared.Submitted.{Submitted}
 use Rattle.dock.specs.Configure.{plainNo, configure}
@@ -61,11 +63,11 @@ left {P} test number done refused m =
     ⊎-elim (λ (z : test ≡ 0). absurd (moved 0 zero-moves (done z) m)) (λ (n : test ≡ 0 → ⊥). refused n) (same-or-not test 0)
 
 -- A making that is not refused tells 0.
-pub make-moves : (ring finished records packets : List ℕ) (slots base mask slot dci : ℕ)
-    → makeNo (length ring) (length finished) (length records) (length packets) slots base slot dci ≡ 0
-    → moves (outcomeNumber (make ring finished records packets slots base mask slot dci .0 .answer) .0) ≡ false → ⊥
-make-moves ring finished records packets slots base mask slot dci z =
-    moved 0 zero-moves (ap (λ x. outcomeNumber (x .0 .answer) .0) (make-acts ring finished records packets slots base mask slot dci z))
+pub make-moves : (ring finished records packets : List ℕ) (shape : Shape) (who : Identity)
+    → makeNo (length ring) (length finished) (length records) (length packets) shape who ≡ 0
+    → moves (outcomeNumber (make ring finished records packets shape who .0 .answer) .0) ≡ false → ⊥
+make-moves ring finished records packets shape who z =
+    moved 0 zero-moves (ap (λ x. outcomeNumber (x .0 .answer) .0) (make-acts ring finished records packets shape who z))
 
 off-or-on : (b : Bool) → (b ≡ false) ⊎ (b ≡ true)
 off-or-on true = inr refl

@@ -16,13 +16,14 @@ use Rattle.packets.specs.declared.Packet.{Packet}
 use Rattle.records.specs.declared.Record.{Record}
 use Rattle.dock.specs.declared.Endpoint.{Endpoint}
 use Rattle.dock.specs.declared.Request.{Request}
-use Rattle.dock.specs.declared.Request.the-variants.{Control, Bulk, Interrupt, Isoch}
+use Rattle.dock.specs.declared.What.{What}
+use Rattle.dock.specs.declared.What.the-variants.{Control, Bulk, Interrupt, Isoch}
 use Rattle.dock.specs.declared.Stored.{Stored}
 use Rattle.dock.specs.declared.Stored.the-variants as stored
 use Rattle.dock.specs.declared.StoredAll.{StoredAll}
 use Rattle.dock.specs.declared.Submitted.the-variants as submitted
 use Rattle.dock.specs.Limits.{ringSize}
-use Rattle.dock.specs.Requests.{required, recordFor}
+use Rattle.dock.specs.Requests.{required, withWhat, recordFor}
 use Rattle.dock.specs.Start.{startNo, tooLong, idTaken, recordTaken, atLeastOne, startedEndpoint, startedRecords, writePackets}
 use Rattle.dock.specs.State.{moved}
 use Rattle.dock.specs.Store.{store, worked}
@@ -110,10 +111,10 @@ module _ (e : Endpoint) (records packets : List ℕ) (lengths ring finished : Li
   begunWith request = startedEndpoint e records request lengths
 
   abbrev kept : Request → Record
-  kept request = recordFor request lengths (idTaken e records) (e .at .place)
+  kept request = recordFor request (length lengths) (idTaken e records) (e .at .place)
 
   abbrev asked : Request → List ℕ
-  asked request = writePackets packets (recordTaken e) request lengths
+  asked request = writePackets packets (recordTaken e) (request .what) lengths
 
   abbrev pub Sent : Type 0
   Sent = StoredAll × List ℕ × List ℕ × List ℕ
@@ -124,41 +125,41 @@ module _ (e : Endpoint) (records packets : List ℕ) (lengths ring finished : Li
 
   abbrev Alike : Request → Type 0
   Alike request =
-      joinedBy request (closed (kept request) (strides (required request lengths) (begunWith request) (kept request) (asked request) ring finished))
+      joinedBy request (closed (kept request) (strides (required request (length lengths)) (begunWith request) (kept request) (asked request) ring finished))
       ≡ sentBy (begunWith request) (kept request) ring finished packets lengths
 
-  bulk-alike : (incoming : Bool) (address size : ℕ) → Alike (Bulk incoming address size)
+  bulk-alike : (incoming : Bool) (given : Request) → Alike (withWhat given (Bulk incoming))
   unfolding startedEndpoint writePackets strides closed trbOf sentBy plainPut
-  bulk-alike incoming address size = refl
+  bulk-alike incoming given = refl
 
-  interrupt-alike : (incoming : Bool) (address size : ℕ) → Alike (Interrupt incoming address size)
+  interrupt-alike : (incoming : Bool) (given : Request) → Alike (withWhat given (Interrupt incoming))
   unfolding startedEndpoint writePackets strides closed trbOf sentBy plainPut
-  interrupt-alike incoming address size = refl
+  interrupt-alike incoming given = refl
 
   -- A control request without data is setup and status, one with data has three stages.
-  two-alike : (kind request value index address size : ℕ) → size ≡ 0 → Alike (Control kind request value index address size)
-  unfolding startedEndpoint writePackets strides closed trbOf sentBy plainPut controlPut stagesPut
-  two-alike kind request value index address size none = rw none refl
+  module _ (type request value index : ℕ) (given : Request) where
+    abbrev setup : Request
+    setup = withWhat given (Control type request value index)
 
-  three-alike : (kind request value index address size : ℕ) → (size ≡ 0 → ⊥) → Alike (Control kind request value index address size)
-  unfolding startedEndpoint writePackets closed sentBy plainPut controlPut
-  three-alike kind request value index address size some =
-      let q = Control kind request value index address size in
-      ap (λ (n : ℕ). joinedBy q (closed (kept q) (strides n (begunWith q) (kept q) (asked q) ring finished))) (rw (ne-eqb size 0 some) refl)
-      ∙ ap (λ (x : Endpoint × List ℕ × List ℕ). joinedBy q (closed (kept q) x))
-      (three-strides (begunWith q) (kept q) (asked q) ring finished refl refl some)
+    two-alike : given .length ≡ 0 → Alike setup
+    unfolding startedEndpoint writePackets strides closed trbOf sentBy plainPut controlPut stagesPut
+    two-alike none = rw none refl
 
-  control-alike : (kind request value index address size : ℕ) → Alike (Control kind request value index address size)
-  control-alike kind request value index address size =
-      ⊎-elim
-      (two-alike kind request value index address size)
-      (three-alike kind request value index address size)
-      (same-or-not size 0)
+    three-alike : (given .length ≡ 0 → ⊥) → Alike setup
+    unfolding startedEndpoint writePackets closed sentBy plainPut controlPut
+    three-alike some =
+        ap (λ (n : ℕ). joinedBy setup (closed (kept setup) (strides n (begunWith setup) (kept setup) (asked setup) ring finished)))
+        (rw (ne-eqb (given .length) 0 some) refl)
+        ∙ ap (λ (x : Endpoint × List ℕ × List ℕ). joinedBy setup (closed (kept setup) x))
+        (three-strides (begunWith setup) (kept setup) (asked setup) ring finished refl refl some)
 
-  module _ (incoming : Bool) (address size : ℕ) (sized : length packets ≡ 4096) (below : recordTaken e < 64)
-      (short : tooLong (Isoch incoming address size) lengths ≡ false) where
+    control-alike : Alike setup
+    control-alike = ⊎-elim two-alike three-alike (same-or-not (given .length) 0)
+
+  module _ (incoming : Bool) (given : Request) (sized : length packets ≡ 4096) (below : recordTaken e < 64)
+      (short : tooLong (Isoch incoming) (given .length) lengths ≡ false) where
     abbrev q : Request
-    q = Isoch incoming address size
+    q = withWhat given (Isoch incoming)
 
     abbrev b : Endpoint
     b = begunWith q
@@ -166,13 +167,13 @@ module _ (e : Endpoint) (records packets : List ℕ) (lengths ring finished : Li
     counted : trbCount (kept q) ≡ length (atLeastOne lengths)
     counted = count-is q lengths (idTaken e records) (e .at .place) short ∙ most lengths
       where
-        most : (l : List ℕ) → required (Isoch incoming address size) l ≡ length (atLeastOne l)
+        most : (l : List ℕ) → required q (length l) ≡ length (atLeastOne l)
         most [] = refl
         most (n ∷ ns) = omega arith
 
     asks : (k : ℕ) → k < length (atLeastOne lengths) → packetAt (asked q) (b .work .number) k .requested ≡ getD (atLeastOne lengths) k 0
     unfolding startedEndpoint
-    asks k l = ap (λ (p : Packet). p .requested) (packet-written packets (recordTaken e) incoming address size lengths sized below short k l)
+    asks k l = ap (λ (p : Packet). p .requested) (packet-written packets (recordTaken e) incoming (given .length) lengths sized below short k l)
 
     isoch-alike : Alike q
     unfolding startedEndpoint writePackets closed sentBy sentIsoch
@@ -182,11 +183,12 @@ module _ (e : Endpoint) (records packets : List ℕ) (lengths ring finished : Li
         ∙ ap (λ (x : Endpoint × List ℕ × List ℕ). joinedBy q (closed (kept q) x))
         (packets-stride b (kept q) (asked q) (atLeastOne lengths) refl counted asks (length (atLeastOne lengths)) 0 (penOf b) ring finished (omega arith))
 
-  alike : (request : Request) → length packets ≡ 4096 → recordTaken e < 64 → tooLong request lengths ≡ false → Alike request
-  alike (Control kind request value index address size) sized below short = control-alike kind request value index address size
-  alike (Bulk incoming address size) sized below short = bulk-alike incoming address size
-  alike (Interrupt incoming address size) sized below short = interrupt-alike incoming address size
-  alike (Isoch incoming address size) sized below short = isoch-alike incoming address size sized below short
+  alike : (what : What) (given : Request) → length packets ≡ 4096 → recordTaken e < 64 → tooLong what (given .length) lengths ≡ false
+      → Alike (withWhat given what)
+  alike (Control type request value index) given sized below short = control-alike type request value index given
+  alike (Bulk incoming) given sized below short = bulk-alike incoming given
+  alike (Interrupt incoming) given sized below short = interrupt-alike incoming given
+  alike (Isoch incoming) given sized below short = isoch-alike incoming given sized below short
 
 -- ---- the whole
 
@@ -200,10 +202,10 @@ module _ (e : Endpoint) (ring finished records packets : List ℕ) (request : Re
   written = startedRecords e records request lengths
 
   abbrev askedNow : List ℕ
-  askedNow = writePackets packets (recordTaken e) request lengths
+  askedNow = writePackets packets (recordTaken e) (request .what) lengths
 
   abbrev held : Record
-  held = recordFor request lengths (idTaken e records) (e .at .place)
+  held = recordFor request (length lengths) (idTaken e records) (e .at .place)
 
   abbrev stridden : ℕ → Record → Whole
   stridden n v = closed v (strides n begunNow v askedNow ring finished)
@@ -213,35 +215,35 @@ module _ (e : Endpoint) (ring finished records packets : List ℕ) (request : Re
   same-record = record-written e records packets request lengths passed
 
   -- The strides of the submission, within some number of stores.
-  ends : Ends written askedNow begunNow ring finished (stridden (required request lengths) held)
+  ends : Ends written askedNow begunNow ring finished (stridden (required request (length lengths)) held)
   unfolding startedEndpoint
   ends =
       let count = started-count e ring finished records packets request lengths passed ring-size finished-size in
-      let some = required-some request lengths in
-      let whole : suc (required request lengths - 1) ≡ required request lengths = omega arith in
-      subst (λ (v : Record). Ends written askedNow begunNow ring finished (stridden (required request lengths) v)) same-record
+      let some = required-some (request .what) (request .length) (length lengths) in
+      let whole : suc (required request (length lengths) - 1) ≡ required request (length lengths) = omega arith in
+      subst (λ (v : Record). Ends written askedNow begunNow ring finished (stridden (required request (length lengths)) v)) same-record
       (subst (λ (n : ℕ). Ends written askedNow begunNow ring finished (stridden n (recordAt written (begunNow .work .number)))) whole
-      (strides-end written askedNow (required request lengths - 1) begunNow ring finished
+      (strides-end written askedNow (required request (length lengths) - 1) begunNow ring finished
       (started-storing e ring finished records packets request lengths passed ring-size finished-size)
       (started-next e ring finished records packets request lengths passed ring-size finished-size)
       (omega arith)))
 
-  is-done : (w : Whole) → w ≡ stridden (required request lengths) held → Done w
+  is-done : (w : Whole) → w ≡ stridden (required request (length lengths)) held → Done w
   unfolding closed
   is-done w q =
-      (held .id, strides (required request lengths) begunNow held askedNow ring finished .0 .who .dci, ap (λ (x : Whole). x .0 .answer) q)
+      (held .id, strides (required request (length lengths)) begunNow held askedNow ring finished .0 .who .dci, ap (λ (x : Whole). x .0 .answer) q)
 
-  same : finish (mostStores request lengths) begunNow ring finished written askedNow ≡ stridden (required request lengths) held
+  same : finish (mostStores request (length lengths)) begunNow ring finished written askedNow ≡ stridden (required request (length lengths)) held
   same =
-      one-way (mostStores request lengths) (ends .0) begunNow ring finished written askedNow
+      one-way (mostStores request (length lengths)) (ends .0) begunNow ring finished written askedNow
       (idTaken e records, begunNow .who .dci, start-finishes e ring finished records packets request lengths passed ring-size finished-size .answer)
       (is-done (finish (ends .0) begunNow ring finished written askedNow) (ends .1))
       ∙ ends .1
 
   -- What the stores of an admitted submission leave is what `send` leaves behind its start.
-  pub sent-is : joinedBy e records packets lengths ring finished request (finish (mostStores request lengths) begunNow ring finished written askedNow)
+  pub sent-is : joinedBy e records packets lengths ring finished request (finish (mostStores request (length lengths)) begunNow ring finished written askedNow)
       ≡ sentBy begunNow held ring finished packets lengths
   sent-is =
       let s = start-admitted e records packets request lengths passed in
       ap (joinedBy e records packets lengths ring finished request) same
-      ∙ alike e records packets lengths ring finished request (s .packets-size) (record-below e records packets request lengths passed) (s .short)
+      ∙ alike e records packets lengths ring finished (request .what) request (s .packets-size) (record-below e records packets request lengths passed) (s .short)

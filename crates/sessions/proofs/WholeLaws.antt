@@ -12,14 +12,15 @@ use Rattle.base.specs.First.{pick}
 use Rattle.dock.specs.declared.Changed.{Changed}
 use Rattle.dock.specs.declared.Endpoint.{Endpoint}
 use Rattle.dock.specs.declared.Request.{Request}
-use Rattle.dock.specs.declared.Request.the-variants.{Control, Bulk, Interrupt, Isoch}
+use Rattle.dock.specs.declared.What.{What}
+use Rattle.dock.specs.declared.What.the-variants.{Control, Bulk, Interrupt, Isoch}
 use Rattle.dock.specs.declared.Stored.{Stored}
 use Rattle.dock.specs.declared.Stored.the-variants as stored
 use Rattle.dock.specs.declared.StoredAll.{StoredAll}
 use Rattle.dock.specs.declared.StoredOne.{StoredOne}
 use Rattle.dock.specs.declared.Submitted.the-variants as submitted
 use Rattle.dock.specs.Limits.{ringSize}
-use Rattle.dock.specs.Requests.{required}
+use Rattle.dock.specs.Requests.{countFor}
 use Rattle.dock.specs.Start.{someOver, sumOf, tooLong, startNo, startedEndpoint, startedRecords, writePackets, recordTaken, idTaken}
 use Rattle.dock.specs.State.{idle}
 use Rattle.dock.specs.Store.{store}
@@ -76,12 +77,12 @@ two-or-three : (b : Bool) → pick b 2 3 ≤ 64
 two-or-three true = omega arith
 two-or-three false = omega arith
 
-few : (request : Request) (lengths : List ℕ) → tooLong request lengths ≡ false → required request lengths ≤ 64
+few : (what : What) (size : ℕ) (lengths : List ℕ) → tooLong what size lengths ≡ false → countFor what size (length lengths) ≤ 64
 unfolding tooLong
-few (Control kind request value index address size) lengths t = two-or-three (eqb size 0)
-few (Bulk incoming address size) lengths t = omega arith
-few (Interrupt incoming address size) lengths t = omega arith
-few (Isoch incoming address size) lengths t =
+few (Control type request value index) size lengths t = two-or-three (eqb size 0)
+few (Bulk incoming) size lengths t = omega arith
+few (Interrupt incoming) size lengths t = omega arith
+few (Isoch incoming) size lengths t =
     let first = either-false (ltb 64 (length lengths) || someOver lengths) (ltb size (sumOf lengths)) t .0 in
     omega (arith, ltb-false 64 (length lengths) (either-false (ltb 64 (length lengths)) (someOver lengths) first .0))
 
@@ -97,17 +98,17 @@ module _ (e : Endpoint) (ring finished records packets : List ℕ) (request : Re
   written = startedRecords e records request lengths
 
   abbrev given : List ℕ
-  given = writePackets packets (recordTaken e) request lengths
+  given = writePackets packets (recordTaken e) (request .what) lengths
 
   abbrev whole : StoredAll × List ℕ × List ℕ
-  whole = finish (mostStores request lengths) begun ring finished written given
+  whole = finish (mostStores request (length lengths)) begun ring finished written given
 
   -- The line's stores leave what those of the whole submission leave,
   pub line-is-whole : Same whole (stores 66 begun ring finished written given p)
   line-is-whole =
-      let short = few request lengths (start-admitted e records packets request lengths passed .short) in
+      let short = few (request .what) (request .length) lengths (start-admitted e records packets request lengths passed .short) in
       let ended = start-finishes e ring finished records packets request lengths passed ring-size finished-size in
-      follows written given (idTaken e records) (begun .who .dci) (mostStores request lengths) 66 (omega arith) begun ring finished p (ended .answer)
+      follows written given (idTaken e records) (begun .who .dci) (mostStores request (length lengths)) 66 (omega arith) begun ring finished p (ended .answer)
 
   -- and nothing is under way afterwards.
   pub line-settles : asked e ring finished records packets request lengths p .0 .e .work ≡ idle

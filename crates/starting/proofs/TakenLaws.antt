@@ -8,8 +8,6 @@ use Rattle.dock.specs.Requests.{recordFor}
 use Rattle.dock.specs.Start.{numberFrom, recordTaken, idTaken, charged, writePackets, startedEndpoint, startedRecords}
 use Rattle.dock.specs.declared.Endpoint.{Endpoint}
 use Rattle.dock.specs.declared.Request.{Request}
-use Rattle.dock.specs.declared.Request.the-variants.{Control, Bulk, Interrupt, Isoch}
-use Rattle.requests.specs.Counts.{recordBy}
 use Rattle.starting.specs.Taken.{startedBy, takenWith, begunWith}
 use Rattle.starting.specs.declared.Begun.{Begun}
 
@@ -17,14 +15,11 @@ use Rattle.starting.specs.declared.Begun.{Begun}
 pub taken-is : (e : Endpoint) (records : List ℕ) (request : Request) (lengths : List ℕ)
     → takenWith e records request (length lengths)
     ≡ (
-      record { endpoint = startedEndpoint e records request lengths; kept = recordFor request lengths (idTaken e records) (e .at .place) },
+      record { endpoint = startedEndpoint e records request lengths; kept = recordFor request (length lengths) (idTaken e records) (e .at .place) },
       startedRecords e records request lengths,
     )
-unfolding takenWith startedBy startedEndpoint startedRecords recordTaken idTaken charged recordBy
-taken-is e records (Control kind request value index address size) lengths = refl
-taken-is e records (Bulk incoming address size) lengths = refl
-taken-is e records (Interrupt incoming address size) lengths = refl
-taken-is e records (Isoch incoming address size) lengths = refl
+unfolding takenWith startedBy startedEndpoint startedRecords recordTaken idTaken charged
+taken-is e records request lengths = refl
 
 abbrev left : Begun × List ℕ → List ℕ → Endpoint × List ℕ × List ℕ
 left b packets = (b .0 .endpoint, b .1, packets)
@@ -32,9 +27,9 @@ left b packets = (b .0 .endpoint, b .1, packets)
 -- and all that it leaves.
 pub begun-by : (e : Endpoint) (records packets : List ℕ) (request : Request) (lengths : List ℕ) {b : Begun} {number : ℕ} {records₁ packets₁ : List ℕ}
     → _≡_ {A = Begun × List ℕ} (b, records₁) (takenWith e records request (length lengths)) → number ≡ numberFrom (lowest (e .account .occupancy))
-    → packets₁ ≡ writePackets packets number request lengths
+    → packets₁ ≡ writePackets packets number (request .what) lengths
     → _≡_ {A = Endpoint × List ℕ × List ℕ} (b .endpoint, records₁, packets₁) (begunWith e records packets request lengths)
 unfolding begunWith recordTaken
 begun-by e records packets request lengths {b} {number} {records₁} {packets₁} taken is wrote =
-    ap (left (b, records₁)) (wrote ∙ ap (λ (n : ℕ). writePackets packets n request lengths) is)
-    ∙ ap (λ (x : Begun × List ℕ). left x (writePackets packets (recordTaken e) request lengths)) (taken ∙ taken-is e records request lengths)
+    ap (left (b, records₁)) (wrote ∙ ap (λ (n : ℕ). writePackets packets n (request .what) lengths) is)
+    ∙ ap (λ (x : Begun × List ℕ). left x (writePackets packets (recordTaken e) (request .what) lengths)) (taken ∙ taken-is e records request lengths)

@@ -8,10 +8,10 @@ use Rattle.ids.specs.Order.{afterId}
 use Rattle.records.specs.Records.{recordList}
 use Rattle.dock.specs.declared.Endpoint.{Endpoint}
 use Rattle.dock.specs.declared.Request.{Request}
+use Rattle.dock.specs.Requests.{required, recordFor}
 use Rattle.dock.specs.Start.{numberFrom, begun, recordTaken, startedEndpoint, startedRecords, writePackets}
 use Rattle.dock.specs.State.{withWork}
 use Rattle.starting.specs.declared.Begun.{Begun}
-use Rattle.requests.specs.Counts.{requiredBy, recordBy}
 
 -- The endpoint after the start, with the id after the one that was taken.
 unfoldable pub startedBy : Endpoint → ℕ → ℕ → Request → ℕ → Endpoint
@@ -20,7 +20,7 @@ startedBy e next number request count =
     (record {
       next = next;
       occupancy = masks.taken (e .account .occupancy) number;
-      outstanding = e .account .outstanding + requiredBy request count;
+      outstanding = e .account .outstanding + required request count;
     })
     (begun e number request)
 
@@ -29,10 +29,10 @@ unfoldable pub takenWith : Endpoint → List ℕ → Request → ℕ → Begun �
 takenWith e records request count =
     let id = freeIn records (e .account .occupancy) (e .account .next) in
     let number = numberFrom (masks.lowest (e .account .occupancy)) in
-    let v = recordBy request count id (e .at .place) in
+    let v = recordFor request count id (e .at .place) in
     (record { endpoint = startedBy e (afterId id) number request count; kept = v }, put recordWords records number (recordList v))
 
 -- All that an admitted start leaves.
 unfoldable pub begunWith : Endpoint → List ℕ → List ℕ → Request → List ℕ → Endpoint × List ℕ × List ℕ
 begunWith e records packets request lengths =
-    (startedEndpoint e records request lengths, startedRecords e records request lengths, writePackets packets (recordTaken e) request lengths)
+    (startedEndpoint e records request lengths, startedRecords e records request lengths, writePackets packets (recordTaken e) (request .what) lengths)

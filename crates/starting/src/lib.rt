@@ -8,14 +8,15 @@ ghost use lib.Seq.{paste};
 ghost use Rattle.sizes.specs.Sizes.{recordCount};
 ghost use Rattle.mask.specs.Occupancy.{lowest};
 ghost use Rattle.packets.specs.Packets.{packetCount};
+ghost use Rattle.dock.specs.Requests.{givenOf, required};
 ghost use Rattle.dock.specs.Start.{numberFrom, atLeastOne, writePackets};
-ghost use Rattle.requests.specs.Counts.{givenBy, requiredBy};
 ghost use Rattle.starting.specs.Taken.{startedBy, takenWith, begunWith};
 ghost use Rattle.dock.specs.Limits.{recordsSize};
 ghost use Rattle.admission.specs.Admitted.{Admitted};
 use dock::Account;
 use dock::Endpoint;
 use dock::Request;
+use dock::What;
 use dock::Work;
 use mask::Found;
 use mask::Occupancy;
@@ -58,40 +59,26 @@ fn write_lengths(packets: &mut [u64], number: usize, lengths: &[u64])
 }
 
 // "Writes the record's packets anew, unmarked." Only an ISO request has packets.
-fn write_packets(packets: &mut [u64], number: usize, request: Request, lengths: &[u64])
-    requires { ⌜ (packetCount * number + packetCount ≤ length (now packets)) × (givenBy request (length (now lengths)) ≤ packetCount) ⌝ }
-    ensures { λ _. ⌜ now (packets .exit) ≡ writePackets (now (packets .entry)) number request (now (lengths .entry)) ⌝ }
+fn write_packets(packets: &mut [u64], number: usize, what: What, lengths: &[u64])
+    requires { ⌜ (packetCount * number + packetCount ≤ length (now packets)) × (givenOf what (length (now lengths)) ≤ packetCount) ⌝ }
+    ensures { λ _. ⌜ now (packets .exit) ≡ writePackets (now (packets .entry)) number what (now (lengths .entry)) ⌝ }
 {
-    match request {
-        Request::Control {
-            kind: _,
+    match what {
+        What::Control {
+            request_type: _,
             request: _,
             value: _,
             index: _,
-            address: _,
-            length: _,
         } => {}
-        Request::Bulk {
-            incoming: _,
-            address: _,
-            length: _,
-        } => {}
-        Request::Interrupt {
-            incoming: _,
-            address: _,
-            length: _,
-        } => {}
-        Request::Isoch {
-            incoming: _,
-            address: _,
-            length: _,
-        } => write_lengths(packets, number, lengths),
+        What::Bulk { incoming: _ } => {}
+        What::Interrupt { incoming: _ } => {}
+        What::Isoch { incoming: _ } => write_lengths(packets, number, lengths),
     }
 }
 
 // The endpoint with the id, the record and the count taken, and the submission under way.
 fn started(e: Endpoint, next: u64, number: usize, request: Request, count: usize) -> Endpoint
-    requires { ⌜ (number < recordCount) × (e .account .outstanding + requiredBy request count < 2 ^ 64) ⌝ }
+    requires { ⌜ (number < recordCount) × (e .account .outstanding + required request count < 2 ^ 64) ⌝ }
     ensures { λ r. ⌜ r ≡ startedBy e next number request count ⌝ }
 {
     let account = Account {
@@ -121,7 +108,7 @@ pub struct Begun {
 
 // The id, the record and the count.
 pub fn take(e: Endpoint, records: &mut [u64], request: Request, count: usize) -> Begun
-    requires { ⌜ (length (now records) ≡ recordsSize) × (0 < e .account .next) × (e .account .outstanding + requiredBy request count ≤ 4094) ⌝ }
+    requires { ⌜ (length (now records) ≡ recordsSize) × (0 < e .account .next) × (e .account .outstanding + required request count ≤ 4094) ⌝ }
     ensures { λ r. ⌜ (r, now (records .exit)) ≡ takenWith e (now (records .entry)) request count ⌝ }
 {
     let number = record_taken(e.account.occupancy);
@@ -147,6 +134,7 @@ pub fn begin(
 {
     let begun = take(e, records, request, lengths.len());
     let number = record_taken(e.account.occupancy);
-    write_packets(packets, number, request, lengths);
+    let what = request.what;
+    write_packets(packets, number, what, lengths);
     begun.endpoint
 }

@@ -8,7 +8,8 @@ use lib.ListN.{length, getD}
 use Rattle.base.specs.First.{pick}
 use Rattle.records.specs.Records.{control, bulk, interrupt, isSet}
 use Rattle.dock.specs.declared.Request.{Request}
-use Rattle.dock.specs.declared.Request.the-variants.{Control, Bulk, Interrupt, Isoch}
+use Rattle.dock.specs.declared.What.{What}
+use Rattle.dock.specs.declared.What.the-variants.{Control, Bulk, Interrupt, Isoch}
 
 abbrev pub requestWords : ℕ
 requestWords = 8
@@ -17,17 +18,17 @@ requestWords = 8
 unfoldable pub isRequest : List ℕ → Bool
 isRequest w = eqb (length w) requestWords && ltb (getD w 0 0) 4
 
-abbrev pub setupBy : ℕ → ℕ → ℕ → ℕ → ℕ → ℕ → Request
-setupBy kind request value index address size =
-    Control (kind % 2 ^ 8) (request % 2 ^ 8) (value % 2 ^ 16) (index % 2 ^ 16) address size
+abbrev pub setupBy : ℕ → ℕ → ℕ → ℕ → What
+setupBy type request value index = Control (type % 2 ^ 8) (request % 2 ^ 8) (value % 2 ^ 16) (index % 2 ^ 16)
 
-abbrev pub requestBy : ℕ → Bool → ℕ → ℕ → Request
-requestBy kind incoming address size =
-    pick (eqb kind bulk) (Bulk incoming address size)
-    (pick (eqb kind interrupt) (Interrupt incoming address size) (Isoch incoming address size))
+abbrev pub transferBy : ℕ → Bool → What
+transferBy kind incoming = pick (eqb kind bulk) (Bulk incoming) (pick (eqb kind interrupt) (Interrupt incoming) (Isoch incoming))
 
-unfoldable pub requestOf : List ℕ → Request
-requestOf w =
+unfoldable pub whatOf : List ℕ → What
+whatOf w =
     pick (eqb (getD w 0 0) control)
-    (setupBy (getD w 2 0) (getD w 3 0) (getD w 4 0) (getD w 5 0) (getD w 6 0) (getD w 7 0))
-    (requestBy (getD w 0 0) (isSet (getD w 1 0)) (getD w 6 0) (getD w 7 0))
+    (setupBy (getD w 2 0) (getD w 3 0) (getD w 4 0) (getD w 5 0))
+    (transferBy (getD w 0 0) (isSet (getD w 1 0)))
+
+abbrev pub requestOf : List ℕ → Request
+requestOf w = record { what = whatOf w; address = getD w 6 0; length = getD w 7 0 }

@@ -1,13 +1,16 @@
 -- The values of a line, as the calls take them. The reader has seen to it that each is of its kind, so that nothing is cut here.
-use Prim.Native.Nat.{ℕ, _-_, _%_, _^_}
+use Prim.Native.Nat.{ℕ, _+_, _-_, _%_, _^_}
 use mathlib.Core.Bool.{Bool, _&&_}
 use mathlib.Core.List.{List, []}
 use lib.Dec.{eqb, leb, ltb}
 use lib.ListN.{length, getD, take, drop}
 use Rattle.base.specs.First.{pick}
 use Rattle.trb.specs.declared.Words.{Words}
+use Rattle.dock.specs.declared.Identity.{Identity}
 use Rattle.dock.specs.declared.Request.{Request}
-use Rattle.dock.specs.declared.Request.the-variants.{Control, Bulk, Interrupt, Isoch}
+use Rattle.dock.specs.declared.Shape.{Shape}
+use Rattle.dock.specs.declared.What.{What}
+use Rattle.dock.specs.declared.What.the-variants.{Control, Bulk, Interrupt, Isoch}
 use Rattle.words.specs.Words.{ringWord, controlWord, isoWord, interruptWord}
 use Rattle.lines.specs.declared.Reading.{Reading}
 use Rattle.values.specs.declared.Opening.{Opening}
@@ -28,16 +31,29 @@ word v = v % 2 ^ 32
 abbrev pub flagged : ℕ → Bool
 flagged v = eqb v 1
 
+-- A `ring` line has slots, base, mask, slot id and dci: the ring's numbers,
+unfoldable pub shapeOf : List ℕ → Shape
+shapeOf values = record { slots = value values 0; base = value values 1 }
+
+-- and who the endpoint is.
+unfoldable pub identityOf : List ℕ → Identity
+identityOf values = record { slot = byte (value values 3); dci = byte (value values 4); mask = value values 2 }
+
 -- "`control` gives request type, request, value, index, address, length; `bulk` in, address, length; `iso` the same, then the packet lengths."
+unfoldable pub whatOf : ℕ → List ℕ → What
+whatOf name values =
+    let a = value values 0 in
+    pick (eqb name controlWord)
+    (Control (byte a) (byte (value values 1)) (half (value values 2)) (half (value values 3)))
+    (pick (eqb name isoWord) (Isoch (flagged a)) (pick (eqb name interruptWord) (Interrupt (flagged a)) (Bulk (flagged a))))
+
+-- Where the address stands; the length is behind it.
+abbrev pub addressAt : ℕ → ℕ
+addressAt name = pick (eqb name controlWord) 4 1
+
 unfoldable pub requestOf : ℕ → List ℕ → Request
 requestOf name values =
-    let a = value values 0 in
-    let b = value values 1 in
-    let c = value values 2 in
-    pick (eqb name controlWord)
-    (Control (byte a) (byte b) (half c) (half (value values 3)) (value values 4) (value values 5))
-    (pick (eqb name isoWord) (Isoch (flagged a) b c)
-    (pick (eqb name interruptWord) (Interrupt (flagged a) b c) (Bulk (flagged a) b c)))
+    record { what = whatOf name values; address = value values (addressAt name); length = value values (addressAt name + 1) }
 
 -- The packet lengths, of which `count` less three are there.
 unfoldable pub lengthsOf : ℕ → List ℕ → ℕ → List ℕ

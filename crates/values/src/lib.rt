@@ -1,11 +1,14 @@
 // The values of a line as what a call takes: numbers of their types, a request, the lengths of its packets, an event's words; and what a line is where
 // no ring is made.
 ghost use mathlib.Core.Path.{_≡_};
-ghost use Prim.Native.Nat.{_%_};
+ghost use Prim.Native.Nat.{_%_, _<_};
 ghost use lib.ListN.{length};
-ghost use Rattle.values.specs.Values.{value, byte, half, word, requestOf, lengthsOf, eventOf, openingOf};
+ghost use Rattle.values.specs.Values.{value, byte, half, word, shapeOf, identityOf, whatOf, addressAt, requestOf, lengthsOf, eventOf, openingOf};
 use dock::Endpoint;
+use dock::Identity;
 use dock::Request;
+use dock::Shape;
+use dock::What;
 use lines::Reading;
 use trb::Words;
 
@@ -59,41 +62,68 @@ pub fn word(v: u64) -> u32
     (v % 0x1_0000_0000) as u32
 }
 
-// The request that a word and its values ask for.
-pub fn request_of(name: u64, values: &[u64]) -> Request
-    ensures { λ r. ⌜ r ≡ requestOf name (now (values .entry)) ⌝ }
+// A `ring` line has slots, base, mask, slot id and dci: the ring's numbers,
+pub fn shape_of(values: &[u64]) -> Shape
+    ensures { λ r. ⌜ r ≡ shapeOf (now (values .entry)) ⌝ }
+{
+    Shape {
+        slots: value(values, 0) as usize,
+        base: value(values, 1),
+    }
+}
+
+// and who the endpoint is.
+pub fn identity_of(values: &[u64]) -> Identity
+    ensures { λ r. ⌜ r ≡ identityOf (now (values .entry)) ⌝ }
+{
+    Identity {
+        slot: byte(value(values, 3)),
+        dci: byte(value(values, 4)),
+        mask: value(values, 2),
+    }
+}
+
+// What a word and its values ask for.
+fn what_of(name: u64, values: &[u64]) -> What
+    ensures { λ r. ⌜ r ≡ whatOf name (now (values .entry)) ⌝ }
 {
     let a = value(values, 0);
-    let b = value(values, 1);
-    let c = value(values, 2);
     if name == words::CONTROL {
-        return Request::Control {
-            kind: byte(a),
-            request: byte(b),
-            value: half(c),
+        return What::Control {
+            request_type: byte(a),
+            request: byte(value(values, 1)),
+            value: half(value(values, 2)),
             index: half(value(values, 3)),
-            address: value(values, 4),
-            length: value(values, 5),
         };
     }
     if name == words::ISO {
-        return Request::Isoch {
-            incoming: a == 1,
-            address: b,
-            length: c,
-        };
+        return What::Isoch { incoming: a == 1 };
     }
     if name == words::INTERRUPT {
-        return Request::Interrupt {
-            incoming: a == 1,
-            address: b,
-            length: c,
-        };
+        return What::Interrupt { incoming: a == 1 };
     }
-    Request::Bulk {
-        incoming: a == 1,
-        address: b,
-        length: c,
+    What::Bulk { incoming: a == 1 }
+}
+
+// Where the address stands; the length is behind it.
+fn address_at(name: u64) -> usize
+    ensures { λ r. ⌜ (r ≡ addressAt name) × (r < 5) ⌝ }
+{
+    if name == words::CONTROL {
+        return 4;
+    }
+    1
+}
+
+// The request that a word and its values make.
+pub fn request_of(name: u64, values: &[u64]) -> Request
+    ensures { λ r. ⌜ r ≡ requestOf name (now (values .entry)) ⌝ }
+{
+    let at = address_at(name);
+    Request {
+        what: what_of(name, values),
+        address: value(values, at),
+        length: value(values, at + 1),
     }
 }
 

@@ -6,19 +6,19 @@ use Rattle.admission.proofs.is_too_long.Tie as tie
 
 returns : tie.Need-returns
 unfolding tooLong
-returns c = simp (c .before .request .given .1)
+returns c = simp (c .before .enum-told .given .1)
 
 returns-2 : tie.Need-returns-2
 unfolding tooLong
-returns-2 c = simp (c .before .request2 .given .1)
+returns-2 c = simp (c .before .enum-told2 .given .1)
 
 returns-3 : tie.Need-returns-3
 unfolding tooLong
-returns-3 c = simp (c .before .request3 .given .1)
+returns-3 c = simp (c .before .enum-told3 .given .1)
 
 returns-4 : tie.Need-returns-4
 unfolding tooLong
-returns-4 c = simp (c .before .before .request4 .given .1, c .is-over .ensures)
+returns-4 c = simp (c .before .enum-told4 .given .1, c .is-over .ensures)
 
 pub is-too-long-spec : {M : Type 1} → statement M
 is-too-long-spec =

@@ -3,7 +3,6 @@ use mathlib.Core.Path.{refl}
 use denote.Ref.{now}
 use Rattle.base.proofs.Chosen.{folded}
 use Rattle.dock.specs.Start.{startNo, startTests}
-use Rattle.admission.proofs.StartLaws.{crowded-by}
 use borrow.Author.Needs.{needs}
 use Rattle.admission.proofs.start_no.Statement.{statement}
 use Rattle.admission.proofs.start_no.Tie as tie
@@ -21,7 +20,6 @@ returns c =
       c .before .before .before .before .before .is-too-long .ensures,
       c .before .before .before .before .before .before .earlier4 .ensures,
       c .before .before .before .before .before .before .before .is-crowded .ensures,
-      crowded-by (a .e .shape .slots) (a .e .account .outstanding) (a .request) (now (a .lengths)),
       c .before .before .before .before .before .before .before .before .earlier3 .ensures,
       c .before .before .before .before .before .before .before .before .before .earlier2 .ensures,
       c .before .before .before .before .before .before .before .before .before .before .earlier .ensures,

@@ -7,30 +7,30 @@ use Rattle.limits.proofs.limits_hold.Statement.{statement}
 use Rattle.limits.proofs.limits_hold.Tie as tie
 
 returns : tie.Need-returns
-returns c = let a = c .before .args in fails (by-limits (a .slots) (a .base) (a .slot) (a .dci)) (λ ok. omega arith)
+returns c = let a = c .before .before .args in fails (by-limits (a .shape) (a .who)) (λ ok. omega arith)
 
 returns-2 : tie.Need-returns-2
-returns-2 c = let a = c .before .before .args in fails (by-limits (a .slots) (a .base) (a .slot) (a .dci)) (λ ok. omega arith)
+returns-2 c = let a = c .before .before .before .before .args in fails (by-limits (a .shape) (a .who)) (λ ok. omega arith)
 
 returns-3 : tie.Need-returns-3
-returns-3 c = let a = c .before .before .before .args in fails (by-limits (a .slots) (a .base) (a .slot) (a .dci)) (λ ok. omega arith)
+returns-3 c = let a = c .before .before .before .before .before .before .args in fails (by-limits (a .shape) (a .who)) (λ ok. omega arith)
 
 returns-4 : tie.Need-returns-4
-returns-4 c = let a = c .before .before .before .before .args in fails (by-limits (a .slots) (a .base) (a .slot) (a .dci)) (λ ok. omega arith)
+returns-4 c = let a = c .before .before .before .before .before .before .before .before .args in fails (by-limits (a .shape) (a .who)) (λ ok. omega arith)
 
 returns-5 : tie.Need-returns-5
-returns-5 c = let a = c .before .before .before .before .before .args in fails (by-limits (a .slots) (a .base) (a .slot) (a .dci)) (λ ok. omega arith)
+returns-5 c = let a = c .before .before .before .before .before .before .before .before .before .before .args in fails (by-limits (a .shape) (a .who)) (λ ok. omega arith)
 
 returns-6 : tie.Need-returns-6
-returns-6 c = let a = c .before .before .before .before .before .before .args in fails (by-limits (a .slots) (a .base) (a .slot) (a .dci)) (λ ok. omega arith)
+returns-6 c = let a = c .before .before .before .before .before .before .before .before .before .before .before .before .args in fails (by-limits (a .shape) (a .who)) (λ ok. omega arith)
 
 returns-7 : tie.Need-returns-7
-returns-7 c = let a = c .before .before .before .before .before .before .before .args in fails (by-limits (a .slots) (a .base) (a .slot) (a .dci)) (λ ok. omega arith)
+returns-7 c = let a = c .before .before .before .before .before .before .before .before .before .before .before .before .before .before .args in fails (by-limits (a .shape) (a .who)) (λ ok. omega arith)
 
 returns-8 : tie.Need-returns-8
 returns-8 c =
-    let a = c .before .before .before .before .before .before .before .args in
-    holds (by-limits (a .slots) (a .base) (a .slot) (a .dci))
+    let a = c .before .before .before .before .before .before .before .before .before .before .before .before .before .before .args in
+    holds (by-limits (a .shape) (a .who))
     (record {
       slots-least = omega arith;
       slots-most = omega arith;

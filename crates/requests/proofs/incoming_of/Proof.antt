@@ -4,7 +4,7 @@ use Rattle.requests.proofs.incoming_of.Statement.{statement}
 use Rattle.requests.proofs.incoming_of.Tie as tie
 
 returns : tie.Need-returns
-returns c = simp (c .before .request .given .1)
+returns c = simp (c .before .what .given .1)
 
 pub incoming-of-spec : {M : Type 1} → statement M
 incoming-of-spec =

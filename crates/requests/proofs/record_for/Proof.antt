@@ -1,27 +1,23 @@
 -- `record_for` meets its contract, field by field. Assumes nothing.
-use Rattle.requests.specs.Counts.{recordBy}
 use borrow.Author.Needs.{needs}
 use Rattle.requests.proofs.record_for.Statement.{statement}
 use Rattle.requests.proofs.record_for.Tie as tie
 
 returns : tie.Need-returns
-unfolding recordBy
 returns c =
     simp (
       c .given-of .ensures,
       c .before .required-of .ensures,
       c .before .before .setup-of .ensures,
-      c .before .before .before .length-of .ensures,
-      c .before .before .before .before .buffer-of .ensures,
-      c .before .before .before .before .before .incoming-of .ensures,
-      c .before .before .before .before .before .before .kind-of .ensures,
+      c .before .before .before .buffer-of .ensures,
+      c .before .before .before .before .incoming-of .ensures,
+      c .before .before .before .before .before .kind-of .ensures,
     )
 
 pub record-for-spec : {M : Type 1} → statement M
 record-for-spec =
     tie.close
     (tie.spec
-    (λ c κs. search needs)
     (λ c κs. search needs)
     (λ c κs. search needs)
     (λ c κs. search needs)

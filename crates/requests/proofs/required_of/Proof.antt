@@ -4,10 +4,10 @@ use Rattle.requests.proofs.required_of.Statement.{statement}
 use Rattle.requests.proofs.required_of.Tie as tie
 
 returns : tie.Need-returns
-returns c = simp (c .before .before .request .given .1, c .stages .ensures)
+returns c = simp (c .before .enum-told .given .1, c .stages .ensures)
 
 returns-4 : tie.Need-returns-4
-returns-4 c = simp (c .before .enum-told3 .given .1, c .one-or-more .ensures)
+returns-4 c = simp (c .before .enum-told4 .given .1, c .one-or-more .ensures)
 
 pub required-of-spec : {M : Type 1} → statement M
 required-of-spec =

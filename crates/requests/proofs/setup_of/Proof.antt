@@ -4,7 +4,7 @@ use Rattle.requests.proofs.setup_of.Statement.{statement}
 use Rattle.requests.proofs.setup_of.Tie as tie
 
 returns : tie.Need-returns
-returns c = simp (c .before .before .request .given .1, c .setup-number .ensures)
+returns c = simp (c .before .before .what .given .1, c .setup-number .ensures)
 
 pub setup-of-spec : {M : Type 1} → statement M
 setup-of-spec =

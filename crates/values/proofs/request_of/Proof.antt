@@ -1,40 +1,15 @@
 -- `request_of` meets its contract. Assumes nothing.
-use borrow.Author.Tests.{eq-eqb, ne-eqb}
+use borrow.Author.Needs.{needs}
 use Rattle.values.specs.Values.{requestOf}
 use Rattle.values.proofs.request_of.Statement.{statement}
 use Rattle.values.proofs.request_of.Tie as tie
 
+add-value : tie.Need-add-value
+add-value c = let low = c .before .before .address-at .ensures .1 in search needs
+
 returns : tie.Need-returns
 unfolding requestOf
-returns c = simp (eq-eqb _ _ (c .before .before .before .before .before .before .before .if1 .taken), c .before .before .before .before .before .before .byte .ensures, c .before .before .before .before .before .byte2 .ensures, c .before .before .before .before .half .ensures, c .before .before .half2 .ensures, c .before .before .before .before .before .before .before .before .before .before .value .ensures, c .before .before .before .before .before .before .before .before .before .value2 .ensures, c .before .before .before .before .before .before .before .before .value3 .ensures, c .before .before .before .value4 .ensures, c .before .value5 .ensures, c .value6 .ensures)
-
-returns-2 : tie.Need-returns-2
-unfolding requestOf
-returns-2 c = simp (ne-eqb _ _ (c .before .if1 .left), eq-eqb _ _ (c .if2 .taken), c .before .before .before .before .value .ensures, c .before .before .before .value2 .ensures, c .before .before .value3 .ensures)
-
-returns-3 : tie.Need-returns-3
-unfolding requestOf
-returns-3 c = simp (ne-eqb _ _ (c .before .before .if1 .left), ne-eqb _ _ (c .before .if2 .left), eq-eqb _ _ (c .if3 .taken), c .before .before .before .before .before .value .ensures, c .before .before .before .before .value2 .ensures, c .before .before .before .value3 .ensures)
-
-returns-4 : tie.Need-returns-4
-unfolding requestOf
-returns-4 c = simp (ne-eqb _ _ (c .before .before .if1 .left), ne-eqb _ _ (c .before .if2 .left), ne-eqb _ _ (c .if3 .left), c .before .before .before .before .before .value .ensures, c .before .before .before .before .value2 .ensures, c .before .before .before .value3 .ensures)
+returns c = simp (c .before .before .before .address-at .ensures .0, c .before .before .what-of .ensures, c .before .value .ensures, c .value2 .ensures)
 
 pub request-of-spec : {M : Type 1} → statement M
-request-of-spec =
-    tie.close
-    (tie.spec
-    (λ c κs. tt)
-    (λ c κs. tt)
-    (λ c κs. tt)
-    (λ c κs. tt)
-    (λ c κs. tt)
-    (λ c κs. tt)
-    (λ c κs. tt)
-    (λ c κs. tt)
-    (λ c κs. tt)
-    (λ c κs. tt)
-    returns
-    returns-2
-    returns-3
-    returns-4)
+request-of-spec = tie.close (tie.spec (λ c κs. search needs) (λ c κs. search needs) (λ c κs. search needs) add-value (λ c κs. search needs) returns)

@@ -11,7 +11,7 @@ unfolding makeNo makeTests
 returns c =
     let a = c .before .before .before .before .args in
     simp (c .earlier2 .ensures, c .before .are-sized .ensures, c .before .before .earlier .ensures, c .before .before .before .limits-hold .ensures)
-    (folded (makeTests (a .ring) (a .finished) (a .records) (a .packets) (a .slots) (a .base) (a .slot) (a .dci)) refl)
+    (folded (makeTests (a .ring) (a .finished) (a .records) (a .packets) (a .shape) (a .who)) refl)
 
 pub make-no-spec : {M : Type 1} → statement M
 make-no-spec =

@@ -1,34 +1,10 @@
--- `request_of` meets its contract: a control request, or one of the others. Assumes nothing.
-use borrow.Author.Tests.{eq-eqb, ne-eqb}
-use Rattle.told.specs.Request.{requestOf}
+-- `request_of` meets its contract: what is asked for, and the buffer. Assumes nothing.
 use borrow.Author.Needs.{needs}
 use Rattle.told.proofs.request.request_of.Statement.{statement}
 use Rattle.told.proofs.request.request_of.Tie as tie
 
 returns : tie.Need-returns
-unfolding requestOf
-returns c = simp (eq-eqb _ _ (c .before .before .before .before .before .before .before .if1 .taken), c .control .ensures)
-
-returns-2 : tie.Need-returns-2
-unfolding requestOf
-returns-2 c = simp (ne-eqb _ _ (c .before .before .before .before .before .if1 .left), c .transfer .ensures)
+returns c = simp (c .before .before .what-of .ensures)
 
 pub request-of-spec : {M : Type 1} → statement M
-request-of-spec =
-    tie.close
-    (tie.spec
-    (λ c. search needs)
-    (λ c. search needs)
-    (λ c. search needs)
-    (λ c. search needs)
-    (λ c. search needs)
-    (λ c. search needs)
-    (λ c. search needs)
-    (λ c κs. search needs)
-    returns
-    (λ c. search needs)
-    (λ c. search needs)
-    (λ c. search needs)
-    (λ c. search needs)
-    (λ c κs. search needs)
-    returns-2)
+request-of-spec = tie.close (tie.spec (λ c κs. search needs) (λ c. search needs) (λ c. search needs) returns)

@@ -1,2 +1,0 @@
--- What the contracts of `requests` cite.
-pub mod Counts
