@@ -51,7 +51,7 @@ pub part-none : (records : List ℕ) (occupancy : Occupancy) (r : ℕ) → ((hel
 unfolding flightPart
 part-none records occupancy r other = ap (λ (b : Bool). pick b (recordAt records r .count) 0) (if-not (by-flies records occupancy r) other)
 
--- What a record adds goes by its bit, its state and its count.
+-- What a record adds goes by whether it is held, its state and its count.
 pub part-same : (records after : List ℕ) (occupancy other : Occupancy) (r : ℕ) → held other r ≡ held occupancy r
     → recordAt after r .state ≡ recordAt records r .state → recordAt after r .count ≡ recordAt records r .count
     → flightPart after other r ≡ flightPart records occupancy r

@@ -1,4 +1,4 @@
-// The request records: twelve words for each of 64 records. Which of them are held stands in the occupancy mask, beside the table; a held record is
+// The request records: twelve words for each of 64 records. Which of them are held stands in the occupancy, beside the table; a held record is
 // in flight or stopped. Every read is total: whatever words stand in the table, they say something.
 ghost use mathlib.Core.Path.{_≡_};
 ghost use Prim.Native.Nat.{_+_, _*_, _<_};
