@@ -26,4 +26,5 @@ pub mod StartedLaws
 pub mod StepLaws
 pub mod StoreLaws
 pub mod SubmitLaws
+pub mod TdLaws
 pub mod TestLaws

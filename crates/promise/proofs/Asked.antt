@@ -271,6 +271,6 @@ module _ (K : ℕ) where
   trbs-plain p (asks.Interrupt incoming address size) lengths = (plain-trb _ (λ q. omega arith), tt)
   trbs-plain p (asks.Isoch incoming address size) lengths = isoch-plain incoming (p .packet) (p .burst) (stored address size) (atLeastOne lengths)
 
-pub link-is : (base : ℕ) → linkType (bare (linkTrb base false)) ≡ true
+pub link-is : (base : ℕ) (chain : Bool) → linkType (bare (linkTrb base chain)) ≡ true
 unfolding linkType
-link-is base = eq-eqb (typeOf (bare (linkTrb base false))) 6 (type-is (linkTrb base false) false)
+link-is base chain = eq-eqb (typeOf (bare (linkTrb base chain))) 6 (type-is (linkTrb base chain) false)

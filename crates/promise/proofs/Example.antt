@@ -31,7 +31,7 @@ use Rattle.dock.specs.Make.{sized, makeTests, makeNo, make}
 use Rattle.dock.specs.Reclaim.{leave, mismatched, completeTests, complete, placeOf, reclaimBulk, reclaimControl, closeBelow, total, sweep, reclaimIso, reclaimTests, reclaimNo, reclaimFlying, reclaim}
 use Rattle.dock.specs.Start.{startNo, startTests, crowded, tooLong, beyond, charged, recordTaken, idTaken, startedEndpoint, startedRecords, writePackets, start}
 use Rattle.dock.specs.Store.{store, storeNo, storeTests, stepped, slotStored, ringStored, finishedStored, settled, storedAnswer}
-use Rattle.dock.specs.Stores.{trbOf, trbCount}
+use Rattle.dock.specs.Stores.{trbOf, trbCount, deferred, chained}
 use Rattle.dock.specs.Worth.{accepted, counts, worth}
 use Rattle.promise.specs.Controller.{Entry, does}
 use Rattle.promise.specs.Run.{World, fromMaking, madeOf, admitted, Move, configures, starts, stores, hands, reclaims, cancels, steps, act, may, admits, takes, isFor, started, handed, play, allowed, Run, made, andThen}
@@ -69,7 +69,7 @@ outset = fromMaking (madeOf (tables 20) (tables 20) (tables 768) (tables 4096) 5
 
 -- The world after the moves, and whether each of them may be made in its turn.
 ended : World × Bool
-unfolding outset allowed play admits takes isFor started handed running.stepped does accepted cycle.cycleOf owned typeOf wordsOf wordsAt put putWords storeAt isSlot slotOf finishedAt fillPlace packetAt putPacket recordAt setWord bit lowestClear clearFrom setBit clearBit freeId freeFrom heldBy any findFrom findId cancel cancelNo cancelTests configure plainNo plainTests fits placesFit strays fitsWith nextOf slotFor foreign handOverTests handOverNo handOver limitsHold leave mismatched completeTests complete placeOf reclaimBulk reclaimControl closeBelow total sweep reclaimIso reclaimTests reclaimNo reclaimFlying reclaim startNo startTests crowded tooLong beyond charged recordTaken idTaken startedEndpoint startedRecords writePackets start store storeNo storeTests stepped slotStored ringStored finishedStored settled storedAnswer trbOf trbCount burstsOf packetsOf worth counts
+unfolding outset allowed play admits takes isFor started handed running.stepped does accepted cycle.cycleOf owned typeOf wordsOf wordsAt put putWords storeAt isSlot slotOf finishedAt fillPlace packetAt putPacket recordAt setWord bit lowestClear clearFrom setBit clearBit freeId freeFrom heldBy any findFrom findId cancel cancelNo cancelTests configure plainNo plainTests fits placesFit strays fitsWith nextOf slotFor foreign handOverTests handOverNo handOver limitsHold leave mismatched completeTests complete placeOf reclaimBulk reclaimControl closeBelow total sweep reclaimIso reclaimTests reclaimNo reclaimFlying reclaim startNo startTests crowded tooLong beyond charged recordTaken idTaken startedEndpoint startedRecords writePackets start store storeNo storeTests stepped slotStored ringStored finishedStored settled storedAnswer trbOf trbCount deferred chained burstsOf packetsOf worth counts
 ended = (play outset moves, allowed outset moves)
 
 all-allowed : allowed outset moves ≡ true
