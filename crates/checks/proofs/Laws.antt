@@ -15,23 +15,23 @@ use Rattle.base.specs.First.{pick}
 use Rattle.packets.specs.Packets.{packetCount}
 use Rattle.records.specs.Records.{control, bulk, interrupt, isoch}
 use Rattle.records.specs.declared.Record.{Record}
-use Rattle.dock.specs.Fit.{fits, theLink, theTrb, theSetup, none, nextOf, strays, fitsWith}
-use Rattle.dock.specs.Stores.{trbCount}
+use Rattle.dock.specs.Fit.{fits, theLink, theTrb, theFirst, none, nextOf, strays, fitsWith}
+use Rattle.dock.specs.Stores.{trbCount, deferred}
 use Rattle.dock.specs.declared.Endpoint.{Endpoint}
 
 -- ---- an endpoint that fits
 
--- The place of the next store and that of the setup.
+-- The place of the next store and that of the first TRB.
 pub record Places (e : Endpoint) : Type 0 where
   pub here : e .at .place + 1 ≤ e .shape .slots
   pub idle : e .work .busy ≡ false → e .at .place + 1 < e .shape .slots
-  pub setup : e .work .busy ≡ true → e .work .place + 1 < e .shape .slots
+  pub first : e .work .busy ≡ true → e .work .place + 1 < e .shape .slots
 
 places : (e : Endpoint) → PlaceFits e → FirstFits e → Places e
 places e here first = record {
   here = ⊎-elim (λ (h : e .at .place + 1 < e .shape .slots). omega arith) (λ h. omega (arith, h .0 .0)) here;
   idle = λ b. ⊎-elim (λ (h : e .at .place + 1 < e .shape .slots). h) (λ h. absurd (false≢true (sym b ∙ h .0 .1))) here;
-  setup = λ b. ⊎-elim (λ (h : e .work .busy ≡ false). absurd (false≢true (sym h ∙ b))) (λ (h : e .work .place + 1 < e .shape .slots). h) first;
+  first = λ b. ⊎-elim (λ (h : e .work .busy ≡ false). absurd (false≢true (sym h ∙ b))) (λ (h : e .work .place + 1 < e .shape .slots). h) first;
 }
 
 -- What `fits` tells of an endpoint.
@@ -70,7 +70,7 @@ count-most v =
     (pick-le (eqb (v .kind) isoch) _ _ 64 (omega arith)
     (pick-le (eqb (v .kind) bulk) _ _ 64 (omega arith) (pick-le (eqb (v .kind) interrupt) 1 0 64 (omega arith) (omega arith))))
 
-second : (a b c : Bool) → pick a theLink (pick b theTrb (pick c theSetup none)) ≡ theTrb → b ≡ true
+second : (a b c : Bool) → pick a theLink (pick b theTrb (pick c theFirst none)) ≡ theTrb → b ≡ true
 second true b c e = let z : _≡_ {A = ℕ} 0 1 = cc in absurd (omega arith)
 second false true c e = refl
 second false false true e = let z : _≡_ {A = ℕ} 0 1 = cc in absurd (omega arith)
@@ -81,5 +81,5 @@ pub trb-left : (e : Endpoint) (v : Record) → nextOf e v ≡ theTrb → e .work
 unfolding nextOf
 trb-left e v t =
     let link = eqb (e .at .place + 1) (e .shape .slots) in
-    let setup = eqb (v .kind) control && eqb (e .work .stored) (trbCount v) in
-    ltb-true _ _ (second link (ltb (e .work .stored) (trbCount v)) setup t)
+    let again = deferred v && eqb (e .work .stored) (trbCount v) in
+    ltb-true _ _ (second link (ltb (e .work .stored) (trbCount v)) again t)

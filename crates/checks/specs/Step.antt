@@ -1,11 +1,11 @@
 -- The next store as the code names it.
-use Rattle.dock.specs.Fit.{Next, theLink, theTrb, theSetup, none}
+use Rattle.dock.specs.Fit.{Next, theLink, theTrb, theFirst, none}
 use Rattle.checks.specs.declared.Next as code
-use Rattle.checks.specs.declared.Next.the-variants.{Link, Trb, Setup, Nothing}
+use Rattle.checks.specs.declared.Next.the-variants.{Link, Trb, First, Nothing}
 
 -- What the code's answer stands for.
 abbrev pub named : code.Next → Next
 named Link = theLink
 named Trb = theTrb
-named Setup = theSetup
+named First = theFirst
 named Nothing = none

@@ -7,7 +7,7 @@ ghost use Prim.Native.Nat.{_*_, _≤_, _<_};
 ghost use lib.Dec.{leb};
 ghost use lib.ListN.{length};
 ghost use Rattle.dock.specs.Limits.{recordsSize};
-ghost use Rattle.dock.specs.Stores.{trbCount};
+ghost use Rattle.dock.specs.Stores.{trbCount, deferred, chained};
 ghost use Rattle.dock.specs.Fit.{placesFit, fits, nextOf, isNone, strays, fitsWith};
 ghost use Rattle.dock.specs.Configure.{plainNo};
 ghost use Rattle.dock.specs.Retire.{recordNo};
@@ -35,7 +35,7 @@ pub fn places_fit(e: Endpoint) -> bool
     if !limits::stands(e.shape.slots, e.at.place, e.work.busy, e.work.stored) {
         return false;
     }
-    limits::setup_stands(e.shape.slots, e.work.busy, e.work.place)
+    limits::first_stands(e.shape.slots, e.work.busy, e.work.place)
 }
 
 // "L, base, dci or slot id outside the above, place above L-2 .., next id 0": none of it.
@@ -76,11 +76,26 @@ pub fn trb_count(v: Record) -> u64
     0
 }
 
+// Whether a TD stores its first TRB last.
+// "A control TD stores its setup with the opposite cycle, the rest as usual, then the setup again with the right one."
+pub fn is_deferred(v: Record) -> bool
+    ensures { λ r. ⌜ r ≡ deferred v ⌝ }
+{
+    v.kind == CONTROL
+}
+
+// Whether the link is chained, should a TD's stores come to L-1: no TRB of a request is chained to the next.
+pub fn is_chained(e: Endpoint, v: Record) -> bool
+    ensures { λ r. ⌜ r ≡ chained e v ⌝ }
+{
+    false
+}
+
 // What the next store of a submission is.
 pub enum Next {
     Link,
     Trb,
-    Setup,
+    First,
     Nothing,
 }
 
@@ -96,11 +111,11 @@ pub fn next_of(e: Endpoint, v: Record) -> Next
     if stored < count {
         return Next::Trb;
     }
-    if v.kind != CONTROL {
+    if !is_deferred(v) {
         return Next::Nothing;
     }
     if stored == count {
-        return Next::Setup;
+        return Next::First;
     }
     Next::Nothing
 }
@@ -117,7 +132,7 @@ fn is_past(e: Endpoint, v: Record) -> bool
     match next {
         Next::Link => false,
         Next::Trb => false,
-        Next::Setup => false,
+        Next::First => false,
         Next::Nothing => true,
     }
 }

@@ -1,5 +1,5 @@
 -- A submission that is started ends: its stores, one after the other, answer its id and the doorbell word within as many stores as the request has TRBs
--- and two more, the link and the setup again; nothing is under way then. Assumes nothing.
+-- and two more, the link and the first TRB again; nothing is under way then. Assumes nothing.
 use Prim.Native.Nat.{ℕ, zero, suc, _+_, _<_, _≤_}
 use mathlib.Core.Bool.{true, false, _&&_, false≢true}
 use mathlib.Core.List.{List}
@@ -20,7 +20,7 @@ use Rattle.dock.specs.declared.Shape.{Shape}
 use Rattle.dock.specs.declared.StoredAll.{StoredAll}
 use Rattle.dock.specs.declared.StoredOne.{StoredOne}
 use Rattle.dock.specs.declared.Submitted.the-variants as submitted
-use Rattle.dock.specs.Fit.{Next, theLink, theTrb, theSetup, none, nextOf, isNone}
+use Rattle.dock.specs.Fit.{Next, theLink, theTrb, theFirst, none, nextOf, isNone}
 use Rattle.dock.specs.Limits.{ringSize}
 use Rattle.dock.specs.Requests.{required}
 use Rattle.dock.specs.Start.{startNo, startedEndpoint, startedRecords, recordTaken, idTaken, charged, writePackets}
@@ -32,7 +32,7 @@ use Rattle.dock.proofs.NextLaws.{because, Storing, store-admits}
 use Rattle.dock.proofs.RefusalLaws.{submit-acts}
 use Rattle.dock.proofs.StartLaws.{start-admitted, record-written}
 use Rattle.dock.proofs.StartedLaws.{started-storing, started-count}
-use Rattle.dock.proofs.StepLaws.{Kept, step-keeps, step-works, setup-is-last, store-keeps, store-goes-on, store-ends}
+use Rattle.dock.proofs.StepLaws.{Kept, step-keeps, step-works, first-is-last, store-keeps, store-goes-on, store-ends}
 use Rattle.dock.proofs.StoreLaws.{flyingRecord, nextStore, steppedNext, lastStore, ring-length, finished-length}
 use Rattle.dock.proofs.TestLaws.{Fits}
 
@@ -93,8 +93,8 @@ module _ (e : Endpoint) (ring finished records packets : List ℕ) (s : Storing 
         busy = refl;
         course = record { number = s .course .number; held = s .course .held; flying = s .course .flying; counted = omega arith; more = more };
       }
-  still theSetup q more ring′ finished′ rings places =
-      absurd (not-none (stepped theSetup e (flyingRecord e records) packets) (flyingRecord e records) (setup-is-last e (flyingRecord e records) packets q) more)
+  still theFirst q more ring′ finished′ rings places =
+      absurd (not-none (stepped theFirst e (flyingRecord e records) packets) (flyingRecord e records) (first-is-last e (flyingRecord e records) packets q) more)
   still none q more ring′ finished′ rings places = absurd (not-none e (flyingRecord e records) q (s .course .more))
 
   -- One store less is enough for what is left.
@@ -108,8 +108,8 @@ module _ (e : Endpoint) (ring finished records packets : List ℕ) (s : Storing 
       let count = s .course .counted in
       ⊎-elim (λ h. inr (omega arith, omega arith)) (λ h. absurd (omega arith)) enough
   enough-less theTrb q more fuel few enough = ⊎-elim (λ h. inl (omega arith, omega arith)) (λ h. inr (omega arith, omega arith)) enough
-  enough-less theSetup q more fuel few enough =
-      absurd (not-none (stepped theSetup e (flyingRecord e records) packets) (flyingRecord e records) (setup-is-last e (flyingRecord e records) packets q) more)
+  enough-less theFirst q more fuel few enough =
+      absurd (not-none (stepped theFirst e (flyingRecord e records) packets) (flyingRecord e records) (first-is-last e (flyingRecord e records) packets q) more)
   enough-less none q more fuel few enough = absurd (not-none e (flyingRecord e records) q (s .course .more))
 
   never-out : Enough 0 e (trbCount (flyingRecord e records)) → ⊥

@@ -27,7 +27,7 @@ use Rattle.trb.specs.declared.Words.{Words}
 use Rattle.records.proofs.RecordLaws.{record-put, record-other}
 use Rattle.ids.proofs.AnyLaws.{true-or-false, never-both, by-held}
 use Rattle.packets.specs.Packets.{packetCount}
-use Rattle.records.specs.Records.{control, isoch, inFlight, recordAt, setWord}
+use Rattle.records.specs.Records.{isoch, inFlight, recordAt, setWord}
 use Rattle.records.specs.declared.Record.{Record}
 use Rattle.dock.specs.declared.Changed.{Changed}
 use Rattle.dock.specs.declared.Endpoint.{Endpoint}
@@ -43,13 +43,13 @@ use Rattle.dock.specs.declared.Request.{Request}
 use Rattle.dock.specs.declared.What.{What}
 use Rattle.dock.specs.declared.What.the-variants.{Control, Bulk, Interrupt, Isoch}
 use Rattle.dock.specs.Limits.{limitsHold}
-use Rattle.dock.specs.Fit.{placesFit, fits, flies, strays, fitsWith, Next, theLink, theTrb, theSetup, none, nextOf, isNone}
+use Rattle.dock.specs.Fit.{placesFit, fits, flies, strays, fitsWith, Next, theLink, theTrb, theFirst, none, nextOf, isNone}
 use Rattle.dock.specs.State.{fresh, idle, moved}
 use Rattle.dock.specs.Make.{makeNo, make, zeros}
 use Rattle.dock.specs.Configure.{plainTests, plainNo, configure}
 use Rattle.dock.specs.Requests.{countFor, withWhat, recordFor, required}
 use Rattle.dock.specs.Start.{crowded, tooLong, someOver, sumOf, startTests, startNo, recordTaken, idTaken, charged, writePackets, startedEndpoint, startedRecords, start}
-use Rattle.dock.specs.Stores.{trbCount}
+use Rattle.dock.specs.Stores.{trbCount, deferred}
 use Rattle.dock.specs.Store.{storeTests, storeNo, stepped, settled}
 use Rattle.dock.specs.Store as storing
 use Rattle.dock.specs.Reclaim.{leave, nothing, badRecord, reclaimTests, reclaimNo, reclaim}
@@ -177,13 +177,13 @@ module _ (e : Endpoint) (v : Record) where
   unfolding nextOf
   none-next q l =
       rw (ne-eqb _ _ q, le-ltb (e .work .stored) (trbCount v) (omega arith), ne-eqb (e .work .stored) (trbCount v) (λ (z : e .work .stored ≡ trbCount v). omega arith))
-      (picked (λ (n : Next). isNone n ≡ true) (eqb (v .kind) control && false) theSetup none (λ t. absurd (never-both t (and-false (eqb (v .kind) control)))) (λ t. refl))
+      (picked (λ (n : Next). isNone n ≡ true) (deferred v && false) theFirst none (λ t. absurd (never-both t (and-false (deferred v)))) (λ t. refl))
 
   -- What the next store is tells where the submission stands.
   abbrev Tells : Next → Type 0
   Tells theLink = e .at .place + 1 ≡ e .shape .slots
   Tells theTrb = (e .at .place + 1 ≡ e .shape .slots → ⊥) × (e .work .stored < trbCount v)
-  Tells theSetup = (e .at .place + 1 ≡ e .shape .slots → ⊥) × (e .work .stored ≡ trbCount v)
+  Tells theFirst = (e .at .place + 1 ≡ e .shape .slots → ⊥) × (e .work .stored ≡ trbCount v)
   Tells none = Unit {0}
 
   next-tells : Tells (nextOf e v)
@@ -191,8 +191,8 @@ module _ (e : Endpoint) (v : Record) where
   next-tells =
       picked Tells (eqb (e .at .place + 1) (e .shape .slots)) _ _ (λ t. eqb-true _ _ t)
       (λ t. picked Tells (ltb (e .work .stored) (trbCount v)) _ _ (λ u. (eqb-false _ _ t, ltb-true _ _ u))
-      (λ u. picked Tells (eqb (v .kind) control && eqb (e .work .stored) (trbCount v)) _ _
-      (λ w. (eqb-false _ _ t, eqb-true (e .work .stored) (trbCount v) (right-true (eqb (v .kind) control) (eqb (e .work .stored) (trbCount v)) w)))
+      (λ u. picked Tells (deferred v && eqb (e .work .stored) (trbCount v)) _ _
+      (λ w. (eqb-false _ _ t, eqb-true (e .work .stored) (trbCount v) (right-true (deferred v) (eqb (e .work .stored) (trbCount v)) w)))
       (λ w. tt)))
 
 -- ---- a store
@@ -220,12 +220,12 @@ module _ (e : Endpoint) (v : Record) (packets : List ℕ) (p : placesFit e ≡ t
     busy = refl;
     left = inl (omega (arith, q .1));
   }
-  stepping theSetup s q = record {
+  stepping theFirst s q = record {
     room = place-slot e p;
     last = λ l. absurd (q .0 l);
     first = first-slot e p b;
     busy = refl;
-    left = inr (none-next (stepped theSetup e v packets) v (q .0) (omega (arith, q .1)));
+    left = inr (none-next (stepped theFirst e v packets) v (q .0) (omega (arith, q .1)));
   }
   stepping none s q = absurd (never-both refl s)
 

@@ -27,7 +27,7 @@ use Rattle.ids.proofs.LookupLaws.{find-finds}
 use Rattle.trb.specs.Layouts.{putWords}
 use Rattle.trb.specs.declared.Words.{Words}
 use Rattle.trb.proofs.BlockLaws.{words-length}
-use Rattle.ring.specs.Ring.{isSlot, slotOf, linkTrb}
+use Rattle.ring.specs.Ring.{isSlot, slotOf}
 use Rattle.ring.specs.declared.Slot.{Slot}
 use Rattle.ring.specs.declared.Slot.the-variants as slot
 use Rattle.ring.proofs.RuleLaws.{store-length}
@@ -51,12 +51,12 @@ use Rattle.dock.specs.declared.StoredOne.{StoredOne}
 use Rattle.dock.specs.declared.Taken.{Taken}
 use Rattle.dock.specs.Limits.{limitsHold, ringSize, recordsSize, packetsSize}
 use Rattle.dock.specs.State.{fresh, idle, moved}
-use Rattle.dock.specs.Fit.{placesFit, fits, fitsWith, strays, Next, theLink, theTrb, theSetup, none, nextOf, isNone}
+use Rattle.dock.specs.Fit.{placesFit, fits, fitsWith, strays, Next, theLink, theTrb, theFirst, none, nextOf, isNone}
 use Rattle.dock.specs.Make.{sized, makeTests, makeNo, make, zeros}
 use Rattle.dock.specs.Configure.{plainNo, configure}
 use Rattle.dock.specs.Requests.{recordFor}
 use Rattle.dock.specs.Start.{tooLong, isFull, startTests, startNo, recordTaken, numberFrom, idTaken, charged, atLeastOne, writePackets, startedEndpoint, startedRecords, start, someOver, sumOf}
-use Rattle.dock.specs.Stores.{setupTrb, trbOf}
+use Rattle.dock.specs.Stores.{trbOf, firstTrb, linkFor}
 use Rattle.dock.specs.Store.{storeTests, storeNo, stepped, ringStored, finishedStored, settled, firstCycle}
 use Rattle.dock.specs.Store as storing
 use Rattle.dock.specs.HandOver.{slotNumber, slotFor, handOverNo, handOver}
@@ -312,23 +312,23 @@ module _ (e : Endpoint) (p : placesFit e ≡ true) where
 module _ (e : Endpoint) (p : placesFit e ≡ true) (b : e .work .busy ≡ true) (v : Record) (packets : List ℕ) where
   ring-long : (n : Next) (ring : List ℕ) → length ring ≡ ringSize (e .shape .slots) → length (ringStored n e v packets ring) ≡ length ring
   unfolding ringStored
-  ring-long theLink ring l = store-length ring (e .at .place) (linkTrb (e .shape .base) false) (e .at .cycle) (omega (arith, place-slot e p))
+  ring-long theLink ring l = store-length ring (e .at .place) (linkFor e v) (e .at .cycle) (omega (arith, place-slot e p))
   ring-long theTrb ring l = store-length ring (e .at .place) (trbOf e v packets (e .work .stored)) (firstCycle e v) (omega (arith, place-slot e p))
-  ring-long theSetup ring l = store-length ring (e .work .place) (setupTrb v) (e .work .cycle) (omega (arith, first-slot e p b))
+  ring-long theFirst ring l = store-length ring (e .work .place) (firstTrb e v packets) (e .work .cycle) (omega (arith, first-slot e p b))
   ring-long none ring l = refl
 
   finished-long : (n : Next) (finished : List ℕ) → length finished ≡ ringSize (e .shape .slots) → length (finishedStored n e finished) ≡ length finished
   unfolding finishedStored
   finished-long theLink finished l = refl
   finished-long theTrb finished l = words-length finished (e .at .place) (record { w0 = 0; w1 = 0; w2 = 0; w3 = 0 }) (omega (arith, place-slot e p))
-  finished-long theSetup finished l = refl
+  finished-long theFirst finished l = refl
   finished-long none finished l = refl
 
   pub stepped-follows : (n : Next) → Follows e (stepped n e v packets)
   unfolding stepped
   stepped-follows theLink = record { shape = refl; who = refl; account = refl; work = λ w. (b, refl) }
   stepped-follows theTrb = record { shape = refl; who = refl; account = refl; work = λ w. (b, refl) }
-  stepped-follows theSetup = record { shape = refl; who = refl; account = refl; work = λ w. (b, refl) }
+  stepped-follows theFirst = record { shape = refl; who = refl; account = refl; work = λ w. (b, refl) }
   stepped-follows none = follows-same e
 
 pub settled-follows : (e after : Endpoint) (v : Record) → Follows e after → Follows e (settled after v)

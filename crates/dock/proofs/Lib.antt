@@ -27,4 +27,5 @@ pub mod StartedLaws
 pub mod StepLaws
 pub mod StoreLaws
 pub mod SubmitLaws
+pub mod TdLaws
 pub mod TestLaws

@@ -9,14 +9,13 @@ use borrow.Author.Tests.{not-false, eq-eqb, ne-eqb, lt-ltb, le-ltb, eqb-true, eq
 use lib.Dec.{eqb, ltb}
 use lib.ListN.{length}
 use Rattle.base.specs.First.{pick}
-use Rattle.base.proofs.Decide.{Decides, by-eqb, both, if-so, if-not}
-use Rattle.records.specs.Records.{control}
+use Rattle.base.proofs.Decide.{Decides, by-eqb, by-true, both, if-so, if-not}
 use Rattle.records.specs.declared.Record.{Record}
 use Rattle.dock.specs.declared.Endpoint.{Endpoint}
-use Rattle.dock.specs.Fit.{fitsWith, Next, theLink, theTrb, theSetup, none, nextOf}
+use Rattle.dock.specs.Fit.{fitsWith, Next, theLink, theTrb, theFirst, none, nextOf}
 use Rattle.dock.specs.Limits.{ringSize, recordsSize, packetsSize}
 use Rattle.dock.specs.Store.{storeTests, storeNo}
-use Rattle.dock.specs.Stores.{trbCount}
+use Rattle.dock.specs.Stores.{trbCount, deferred}
 use Rattle.dock.proofs.RefusalLaws.{store-exact}
 use Rattle.dock.proofs.TestLaws.{Fits, FitsWith, OnCourse, by-fits-with, on-course, by-strays}
 
@@ -25,41 +24,42 @@ use Rattle.dock.proofs.TestLaws.{Fits, FitsWith, OnCourse, by-fits-with
 Reason : Bool → Bool → Bool → Next → Type 0
 Reason a b c theLink = a ≡ true
 Reason a b c theTrb = (a ≡ false) × (b ≡ true)
-Reason a b c theSetup = (a ≡ false) × (b ≡ false) × (c ≡ true)
+Reason a b c theFirst = (a ≡ false) × (b ≡ false) × (c ≡ true)
 Reason a b c none = (a ≡ false) × (b ≡ false) × (c ≡ false)
 
-reason : (a b c : Bool) → Reason a b c (pick a theLink (pick b theTrb (pick c theSetup none)))
+reason : (a b c : Bool) → Reason a b c (pick a theLink (pick b theTrb (pick c theFirst none)))
 unfolding Reason
 reason true b c = refl
 reason false true c = (refl, refl)
 reason false false true = (refl, refl, refl)
 reason false false false = (refl, refl, refl)
 
--- What it means that a store is the next: the link at place L-1; else a TRB while one is left; else for control, all its TRBs stored, the setup again.
+-- What it means that a store is the next: the link at place L-1; else a TRB while one is left; else for a deferred TD, all its TRBs stored, the
+-- first TRB again.
 abbrev pub Why : Endpoint → Record → Next → Type 0
 Why e v theLink = e .at .place + 1 ≡ e .shape .slots
 Why e v theTrb = (e .at .place + 1 ≡ e .shape .slots → ⊥) × (e .work .stored < trbCount v)
-Why e v theSetup = (e .at .place + 1 ≡ e .shape .slots → ⊥) × (v .kind ≡ control) × (e .work .stored ≡ trbCount v)
-Why e v none = (e .at .place + 1 ≡ e .shape .slots → ⊥) × (trbCount v ≤ e .work .stored) × ((v .kind ≡ control) × (e .work .stored ≡ trbCount v) → ⊥)
+Why e v theFirst = (e .at .place + 1 ≡ e .shape .slots → ⊥) × (deferred v ≡ true) × (e .work .stored ≡ trbCount v)
+Why e v none = (e .at .place + 1 ≡ e .shape .slots → ⊥) × (trbCount v ≤ e .work .stored) × ((deferred v ≡ true) × (e .work .stored ≡ trbCount v) → ⊥)
 
 module _ (e : Endpoint) (v : Record) where
-  by-setup : Decides (eqb (v .kind) control && eqb (e .work .stored) (trbCount v)) ((v .kind ≡ control) × (e .work .stored ≡ trbCount v))
-  by-setup = both (by-eqb (v .kind) control) (by-eqb (e .work .stored) (trbCount v))
+  by-again : Decides (deferred v && eqb (e .work .stored) (trbCount v)) ((deferred v ≡ true) × (e .work .stored ≡ trbCount v))
+  by-again = both (by-true (deferred v)) (by-eqb (e .work .stored) (trbCount v))
 
   worded : (n : Next)
-      → Reason (eqb (e .at .place + 1) (e .shape .slots)) (ltb (e .work .stored) (trbCount v)) (eqb (v .kind) control && eqb (e .work .stored) (trbCount v)) n
+      → Reason (eqb (e .at .place + 1) (e .shape .slots)) (ltb (e .work .stored) (trbCount v)) (deferred v && eqb (e .work .stored) (trbCount v)) n
       → Why e v n
   unfolding Reason
   worded theLink r = eqb-true _ _ r
   worded theTrb r = (eqb-false _ _ (r .0), ltb-true _ _ (r .1))
-  worded theSetup r = let s = by-setup .so (r .2) in (eqb-false _ _ (r .0), s .0, s .1)
-  worded none r = (eqb-false _ _ (r .0), ltb-false _ _ (r .1), by-setup .not-so (r .2))
+  worded theFirst r = let s = by-again .so (r .2) in (eqb-false _ _ (r .0), s .0, s .1)
+  worded none r = (eqb-false _ _ (r .0), ltb-false _ _ (r .1), by-again .not-so (r .2))
 
   pub why : Why e v (nextOf e v)
   unfolding nextOf
   why =
       worded (nextOf e v)
-      (reason (eqb (e .at .place + 1) (e .shape .slots)) (ltb (e .work .stored) (trbCount v)) (eqb (v .kind) control && eqb (e .work .stored) (trbCount v)))
+      (reason (eqb (e .at .place + 1) (e .shape .slots)) (ltb (e .work .stored) (trbCount v)) (deferred v && eqb (e .work .stored) (trbCount v)))
 
   pub because : (n : Next) → nextOf e v ≡ n → Why e v n
   because n q = subst (λ (m : Next). Why e v m) q why
@@ -69,10 +69,10 @@ module _ (e : Endpoint) (v : Record) where
   unfolding nextOf
   is-next theLink w = rw (eq-eqb _ _ w)
   is-next theTrb w = rw (ne-eqb _ _ (w .0), lt-ltb _ _ (w .1))
-  is-next theSetup w =
+  is-next theFirst w =
       let past : trbCount v ≤ e .work .stored = omega arith in
-      rw (ne-eqb _ _ (w .0), le-ltb _ _ past, if-so by-setup (w .1, w .2))
-  is-next none w = rw (ne-eqb _ _ (w .0), le-ltb _ _ (w .1), if-not by-setup (w .2))
+      rw (ne-eqb _ _ (w .0), le-ltb _ _ past, if-so by-again (w .1, w .2))
+  is-next none w = rw (ne-eqb _ _ (w .0), le-ltb _ _ (w .1), if-not by-again (w .2))
 
 -- ---- what an admitted store may count on
 

@@ -20,7 +20,7 @@ use Rattle.dock.specs.declared.Stored.{Stored}
 use Rattle.dock.specs.declared.Stored.the-variants as storedAs
 use Rattle.dock.specs.Configure.{configure, plainNo, plainTests}
 use Rattle.dock.specs.Store.{store, storeNo, storeTests, stepped, slotStored, ringStored, finishedStored, settled, storedAnswer}
-use Rattle.dock.specs.Stores.{trbOf, trbCount}
+use Rattle.dock.specs.Stores.{trbOf, trbCount, deferred, chained}
 use Rattle.dock.specs.Worth.{Worth, bytes, refused, worth, counts}
 use Rattle.dock.specs.declared.Endpoint.{Endpoint}
 use Rattle.dock.specs.declared.Request.{Request}
@@ -182,5 +182,5 @@ allTrue (b ∷ bs) = b && allTrue bs
 
 -- Every reading holds.
 pub all-read : allTrue readings ≡ true
-unfolding readings allTrue w1 w2 w3w4 w5 w6 w7 w8 w9 w10 admits gets heldWith dockOf asking controlOf bulkOf isochOf isoOf noRecords noPackets stored submitted wordIn slotIn periodicOf startNo startTests crowded tooLong beyond charged recordTaken idTaken startedEndpoint startedRecords writePackets start store storeNo storeTests stepped slotStored ringStored finishedStored settled storedAnswer nextOf trbOf trbCount fits placesFit strays fitsWith limitsHold configure plainNo plainTests worth counts masks.held masks.lowest masks.taken freeId freeFrom heldBy any recordAt wordsOf storeAt putWords put burstsOf packetsOf packetAt
+unfolding readings allTrue w1 w2 w3w4 w5 w6 w7 w8 w9 w10 admits gets heldWith dockOf asking controlOf bulkOf isochOf isoOf noRecords noPackets stored submitted wordIn slotIn periodicOf startNo startTests crowded tooLong beyond charged recordTaken idTaken startedEndpoint startedRecords writePackets start store storeNo storeTests stepped slotStored ringStored finishedStored settled storedAnswer nextOf trbOf trbCount fits placesFit strays fitsWith limitsHold configure plainNo plainTests worth counts masks.held masks.lowest masks.taken freeId freeFrom heldBy any recordAt wordsOf storeAt putWords put burstsOf packetsOf packetAt deferred chained
 all-read = refl

@@ -1,5 +1,5 @@
 -- What an admitted store does to the endpoint: the position moves by one place, around, or not at all, a TRB is counted, the link goes out with the old
--- cycle, a control request's setup first with the opposite and last with the right one, and after the last store nothing is under way. Assumes nothing.
+-- cycle, a deferred TD's first TRB first with the opposite and last with the right one, and after the last store nothing is under way. Assumes nothing.
 use Prim.Native.Nat.{ℕ, _+_, _<_}
 use mathlib.Core.Bool.{Bool, true, false, not, _&&_}
 use mathlib.Core.List.{List}
@@ -9,18 +9,17 @@ use native.Mathlib.Omega.{arith}
 use lib.Dec.{eqb}
 use lib.ListN.{length}
 use Rattle.base.specs.First.{pick}
-use Rattle.base.proofs.Decide.{Decides, by-eqb, both, if-so, if-not}
+use Rattle.base.proofs.Decide.{Decides, by-eqb, by-true, both, if-so, if-not}
 use Rattle.trb.specs.Layouts.{wordsOf, wordsAt}
-use Rattle.ring.specs.Ring.{onward, around, linkTrb}
-use Rattle.records.specs.Records.{control}
+use Rattle.ring.specs.Ring.{onward, around}
 use Rattle.records.specs.declared.Record.{Record}
 use Rattle.ring.specs.declared.Position.{Position}
 use Rattle.dock.specs.declared.Endpoint.{Endpoint}
 use Rattle.dock.specs.declared.Stored.the-variants.{Slot, Last}
-use Rattle.dock.specs.Fit.{Next, theLink, theTrb, theSetup, none, nextOf, isNone}
+use Rattle.dock.specs.Fit.{Next, theLink, theTrb, theFirst, none, nextOf, isNone}
 use Rattle.dock.specs.State.{idle, moved}
 use Rattle.dock.specs.Store.{storeNo, store, firstCycle, stepped, slotStored, settled, storedAnswer}
-use Rattle.dock.specs.Stores.{trbCount, trbOf, setupTrb}
+use Rattle.dock.specs.Stores.{trbCount, trbOf, deferred, firstTrb, linkFor}
 use Rattle.dock.proofs.RefusalLaws.{store-acts}
 use Rattle.dock.proofs.NextLaws.{because, is-next}
 use Rattle.dock.proofs.StoreLaws.{flyingRecord, nextStore, slotChanged, steppedNext, lastStore, trbStored, cycleStored, storing, ring-same}
@@ -41,7 +40,7 @@ pub step-keeps : (n : Next) (e : Endpoint) (v : Record) (packets : List ℕ) →
 unfolding stepped
 step-keeps theLink e v packets = record { shape = refl; who = refl; account = refl; flags = refl; packet = refl; burst = refl; interval = refl }
 step-keeps theTrb e v packets = record { shape = refl; who = refl; account = refl; flags = refl; packet = refl; burst = refl; interval = refl }
-step-keeps theSetup e v packets = record { shape = refl; who = refl; account = refl; flags = refl; packet = refl; burst = refl; interval = refl }
+step-keeps theFirst e v packets = record { shape = refl; who = refl; account = refl; flags = refl; packet = refl; burst = refl; interval = refl }
 step-keeps none e v packets = record { shape = refl; who = refl; account = refl; flags = refl; packet = refl; burst = refl; interval = refl }
 
 -- An endpoint whose submission is over keeps all but that.
@@ -64,25 +63,26 @@ rest-at : (b : Bool) (e : Endpoint) → rested b e .at ≡ e .at
 rest-at true e = refl
 rest-at false e = refl
 
--- The position afterwards: around by the link, one place on by a TRB, the same by the setup again.
+-- The position afterwards: around by the link, one place on by a TRB, the same by the first TRB again.
 abbrev pub positionStored : Next → Position → Position
 positionStored theLink p = around p
 positionStored theTrb p = onward p
-positionStored theSetup p = p
+positionStored theFirst p = p
 positionStored none p = p
 
 step-at : (n : Next) (e : Endpoint) (v : Record) (packets : List ℕ) → stepped n e v packets .at ≡ positionStored n (e .at)
 unfolding stepped
 step-at theLink e v packets = refl
 step-at theTrb e v packets = refl
-step-at theSetup e v packets = refl
+step-at theFirst e v packets = refl
 step-at none e v packets = refl
 
--- How many TRBs are stored afterwards: one more by a TRB, as many by the link, and the setup again counts as one more than there are.
+-- How many TRBs are stored afterwards: one more by a TRB, as many by the link, and the first TRB again counts as one more than there
+-- are.
 abbrev pub countStored : Next → ℕ → ℕ
 countStored theLink k = k
 countStored theTrb k = k + 1
-countStored theSetup k = k + 1
+countStored theFirst k = k + 1
 countStored none k = k
 
 -- A step of the submission counts its TRB and keeps its record, its first place and its cycle.
@@ -96,7 +96,7 @@ pub step-works : (n : Next) (e : Endpoint) (v : Record) (packets : List ℕ) →
 unfolding stepped
 step-works theLink e v packets = record { stored = refl; number = refl; place = refl; cycle = refl }
 step-works theTrb e v packets = record { stored = refl; number = refl; place = refl; cycle = refl }
-step-works theSetup e v packets = record { stored = refl; number = refl; place = refl; cycle = refl }
+step-works theFirst e v packets = record { stored = refl; number = refl; place = refl; cycle = refl }
 step-works none e v packets = record { stored = refl; number = refl; place = refl; cycle = refl }
 
 module _ (e : Endpoint) (ring finished records packets : List ℕ) (passed : storeNo e (length ring) (length finished) records (length packets) ≡ 0) where
@@ -134,29 +134,29 @@ module _ (e : Endpoint) (ring finished records packets : List ℕ) (passed : sto
 -- ---- the cycles
 
 module _ (e : Endpoint) (v : Record) where
-  by-first : Decides (eqb (v .kind) control && eqb (e .work .stored) 0) ((v .kind ≡ control) × (e .work .stored ≡ 0))
-  by-first = both (by-eqb (v .kind) control) (by-eqb (e .work .stored) 0)
+  by-first : Decides (deferred v && eqb (e .work .stored) 0) ((deferred v ≡ true) × (e .work .stored ≡ 0))
+  by-first = both (by-true (deferred v)) (by-eqb (e .work .stored) 0)
 
-  -- A control request's first store, its setup, has the opposite cycle,
-  pub setup-hidden : v .kind ≡ control → e .work .stored ≡ 0 → firstCycle e v ≡ not (e .at .cycle)
-  setup-hidden kind stored = rw (if-so by-first (kind, stored))
+  -- A deferred TD's first store, its first TRB, has the opposite cycle,
+  pub first-hidden : deferred v ≡ true → e .work .stored ≡ 0 → firstCycle e v ≡ not (e .at .cycle)
+  first-hidden late stored = rw (if-so by-first (late, stored))
 
   -- and every other TRB the current one.
-  pub trb-current : ((v .kind ≡ control) × (e .work .stored ≡ 0) → ⊥) → firstCycle e v ≡ e .at .cycle
+  pub trb-current : ((deferred v ≡ true) × (e .work .stored ≡ 0) → ⊥) → firstCycle e v ≡ e .at .cycle
   trb-current other = rw (if-not by-first other)
 
-  -- After the setup's second store nothing is left.
-  pub setup-is-last : (packets : List ℕ) → nextOf e v ≡ theSetup → nextOf (stepped theSetup e v packets) v ≡ none
+  -- After the first TRB's second store nothing is left.
+  pub first-is-last : (packets : List ℕ) → nextOf e v ≡ theFirst → nextOf (stepped theFirst e v packets) v ≡ none
   unfolding stepped
-  setup-is-last packets q =
-      let w = because e v theSetup q in
-      is-next (stepped theSetup e v packets) v none (w .0, omega arith, λ k. omega arith)
+  first-is-last packets q =
+      let w = because e v theFirst q in
+      is-next (stepped theFirst e v packets) v none (w .0, omega arith, λ k. omega arith)
 
 module _ (e : Endpoint) (ring finished records packets : List ℕ) (passed : storeNo e (length ring) (length finished) records (length packets) ≡ 0) where
   -- The link: at L-1, with the cycle before it; then place 0 and the cycle toggled.
   pub link-stored : nextStore e records ≡ theLink
       → (e .at .place + 1 ≡ e .shape .slots)
-      × (wordsAt (store e ring finished records packets .1) (e .at .place) ≡ wordsOf (linkTrb (e .shape .base) false) (e .at .cycle))
+      × (wordsAt (store e ring finished records packets .1) (e .at .place) ≡ wordsOf (linkFor e (flyingRecord e records)) (e .at .cycle))
       × (store e ring finished records packets .0 .endpoint .at ≡ record { place = 0; cycle = not (e .at .cycle) })
   unfolding slotStored
   link-stored q = (
@@ -189,20 +189,20 @@ module _ (e : Endpoint) (ring finished records packets : List ℕ) (passed : sto
         store-moves e ring finished records packets passed ∙ ap (λ (n : Next). positionStored n (e .at)) q,
       )
 
-  -- The setup again: of a control request all of whose TRBs are stored, not at L-1, with the cycle kept for it; then nothing is under way.
-  pub setup-stored : nextStore e records ≡ theSetup
+  -- The first TRB again: of a deferred TD all of whose TRBs are stored, not at L-1, with the cycle kept for it; then nothing is under way.
+  pub first-stored : nextStore e records ≡ theFirst
       → (e .at .place + 1 ≡ e .shape .slots → ⊥)
-      × (flyingRecord e records .kind ≡ control)
+      × (deferred (flyingRecord e records) ≡ true)
       × (e .work .stored ≡ trbCount (flyingRecord e records))
-      × (wordsAt (store e ring finished records packets .1) (e .work .place) ≡ wordsOf (setupTrb (flyingRecord e records)) (e .work .cycle))
+      × (wordsAt (store e ring finished records packets .1) (e .work .place) ≡ wordsOf (firstTrb e (flyingRecord e records) packets) (e .work .cycle))
       × (store e ring finished records packets .0 .endpoint .at ≡ e .at)
       × (store e ring finished records packets .0 .endpoint .work ≡ idle)
   unfolding slotStored
-  setup-stored q =
+  first-stored q =
       let v = flyingRecord e records in
-      let w = because e v theSetup q in
+      let w = because e v theFirst q in
       let last : lastStore e records packets ≡ true =
-      ap (λ (n : Next). isNone (nextOf (stepped n e v packets) v)) q ∙ ap isNone (setup-is-last e v packets q) in (
+      ap (λ (n : Next). isNone (nextOf (stepped n e v packets) v)) q ∙ ap isNone (first-is-last e v packets q) in (
         w .0,
         w .1,
         w .2,

@@ -1,5 +1,5 @@
 -- A store that is admitted changes one slot of the ring, wholly, and at most one place of the finished table: a TRB's store clears the place of its
--- slot, the link's and the setup's second clear nothing. Assumes nothing.
+-- slot, the link's and the first TRB's second clear nothing. Assumes nothing.
 use Prim.Native.Nat.{ℕ, _+_, _*_, _<_, _≤_}
 use mathlib.Core.Bool.{Bool, true, false, false≢true}
 use mathlib.Core.List.{List}
@@ -10,7 +10,7 @@ use lib.ListN.{length}
 use Rattle.trb.specs.Layouts.{wordsOf, wordsAt}
 use Rattle.trb.specs.declared.Trb.{Trb}
 use Rattle.trb.proofs.BlockLaws.{words-length}
-use Rattle.ring.specs.Ring.{storeAt, linkTrb}
+use Rattle.ring.specs.Ring.{storeAt}
 use Rattle.ring.proofs.RuleLaws.{store-length, store-same, store-other}
 use Rattle.finished.specs.Finished.{finishedAt}
 use Rattle.records.specs.Records.{recordAt}
@@ -18,26 +18,27 @@ use Rattle.finished.specs.declared.Finished.the-variants.{Nothing}
 use Rattle.records.specs.declared.Record.{Record}
 use Rattle.finished.proofs.FinishedLaws.{cleared, others-kept}
 use Rattle.dock.specs.declared.Endpoint.{Endpoint}
-use Rattle.dock.specs.Fit.{Next, theLink, theTrb, theSetup, none, nextOf, isNone}
+use Rattle.dock.specs.Fit.{Next, theLink, theTrb, theFirst, none, nextOf, isNone}
 use Rattle.dock.specs.Store.{storeNo, store, firstCycle, stepped, slotStored, ringStored, finishedStored}
-use Rattle.dock.specs.Stores.{trbOf, setupTrb}
+use Rattle.dock.specs.Stores.{trbOf, firstTrb, linkFor}
 use Rattle.dock.proofs.RefusalLaws.{store-acts}
 use Rattle.dock.proofs.NextLaws.{Storing, store-admitted}
 use Rattle.dock.proofs.TestLaws.{Fits}
 
 -- ---- one slot
 
--- The TRB that a store stores, and its cycle: the link with the current cycle, which is the old one after it; a TRB; the setup with the cycle kept for it.
+-- The TRB that a store stores, and its cycle: the link with the current cycle, which is the old one after it; a TRB; the first TRB again with the cycle kept
+-- for it.
 abbrev pub trbStored : Next → Endpoint → Record → List ℕ → Trb
-trbStored theLink e v packets = linkTrb (e .shape .base) false
+trbStored theLink e v packets = linkFor e v
 trbStored theTrb e v packets = trbOf e v packets (e .work .stored)
-trbStored theSetup e v packets = setupTrb v
-trbStored none e v packets = setupTrb v
+trbStored theFirst e v packets = firstTrb e v packets
+trbStored none e v packets = firstTrb e v packets
 
 abbrev pub cycleStored : Next → Endpoint → Record → Bool
 cycleStored theLink e v = e .at .cycle
 cycleStored theTrb e v = firstCycle e v
-cycleStored theSetup e v = e .work .cycle
+cycleStored theFirst e v = e .work .cycle
 cycleStored none e v = e .at .cycle
 
 -- Any store but none is one store of that TRB.
@@ -46,7 +47,7 @@ ring-is : (n : Next) (e : Endpoint) (v : Record) (packets ring : List ℕ) → i
 unfolding ringStored slotStored
 ring-is theLink e v packets ring some = refl
 ring-is theTrb e v packets ring some = refl
-ring-is theSetup e v packets ring some = refl
+ring-is theFirst e v packets ring some = refl
 ring-is none e v packets ring some = absurd (false≢true (sym some))
 
 -- Its slot is one of the L.
@@ -54,7 +55,7 @@ slot-below : (n : Next) (e : Endpoint) → Fits e → e .work .busy ≡ true →
 unfolding slotStored
 slot-below theLink e fit busy some = ⊎-elim (λ h. omega arith) (λ h. omega arith) (fit .place)
 slot-below theTrb e fit busy some = ⊎-elim (λ h. omega arith) (λ h. omega arith) (fit .place)
-slot-below theSetup e fit busy some = ⊎-elim (λ h. absurd (false≢true (sym h ∙ busy))) (λ h. omega arith) (fit .first)
+slot-below theFirst e fit busy some = ⊎-elim (λ h. absurd (false≢true (sym h ∙ busy))) (λ h. omega arith) (fit .first)
 slot-below none e fit busy some = absurd (false≢true (sym some))
 
 -- The record of the submission under way, its next store, and the slot of that.
@@ -118,7 +119,7 @@ kept-length : (n : Next) (e : Endpoint) (l : List ℕ) → 4 * slotStored n e + 
 unfolding slotStored finishedStored
 kept-length theLink e l h = refl
 kept-length theTrb e l h = words-length l (e .at .place) (record { w0 = 0; w1 = 0; w2 = 0; w3 = 0 }) h
-kept-length theSetup e l h = refl
+kept-length theFirst e l h = refl
 kept-length none e l h = refl
 
 kept-other : (n : Next) (e : Endpoint) (l : List ℕ) → 4 * slotStored n e + 4 ≤ length l → (place : ℕ) → (place ≡ slotStored n e → ⊥)
@@ -126,7 +127,7 @@ kept-other : (n : Next) (e : Endpoint) (l : List ℕ) → 4 * slotStored n e + 4
 unfolding slotStored finishedStored
 kept-other theLink e l h place differs = refl
 kept-other theTrb e l h place differs = others-kept l (e .at .place) h (record { w0 = 0; w1 = 0; w2 = 0; w3 = 0 }) place differs
-kept-other theSetup e l h place differs = refl
+kept-other theFirst e l h place differs = refl
 kept-other none e l h place differs = refl
 
 trb-clears : (n : Next) (e : Endpoint) (l : List ℕ) → 4 * slotStored n e + 4 ≤ length l → n ≡ theTrb
@@ -134,7 +135,7 @@ trb-clears : (n : Next) (e : Endpoint) (l : List ℕ) → 4 * slotStored n e + 4
 unfolding slotStored finishedStored
 trb-clears theLink e l h q = let z : _≡_ {A = ℕ} 0 1 = cc in absurd (omega arith)
 trb-clears theTrb e l h q = cleared l (e .at .place) h
-trb-clears theSetup e l h q = let z : _≡_ {A = ℕ} 0 1 = cc in absurd (omega arith)
+trb-clears theFirst e l h q = let z : _≡_ {A = ℕ} 0 1 = cc in absurd (omega arith)
 trb-clears none e l h q = let z : _≡_ {A = ℕ} 0 1 = cc in absurd (omega arith)
 
 module _ (e : Endpoint) (ring finished records packets : List ℕ) (passed : storeNo e (length ring) (length finished) records (length packets) ≡ 0) where
@@ -161,11 +162,11 @@ module _ (e : Endpoint) (ring finished records packets : List ℕ) (passed : sto
   finished-other place differs =
       ap (λ l. finishedAt l place) finished-after ∙ kept-other (nextStore e records) e finished place-room place differs
 
-  -- and the link's store and the setup's second store clear nothing.
+  -- and the link's store and the first TRB's second store clear nothing.
   pub link-clears-nothing : nextStore e records ≡ theLink → store e ring finished records packets .2 ≡ finished
   unfolding finishedStored
   link-clears-nothing q = finished-after ∙ ap (λ (n : Next). finishedStored n e finished) q
 
-  pub setup-clears-nothing : nextStore e records ≡ theSetup → store e ring finished records packets .2 ≡ finished
+  pub first-clears-nothing : nextStore e records ≡ theFirst → store e ring finished records packets .2 ≡ finished
   unfolding finishedStored
-  setup-clears-nothing q = finished-after ∙ ap (λ (n : Next). finishedStored n e finished) q
+  first-clears-nothing q = finished-after ∙ ap (λ (n : Next). finishedStored n e finished) q

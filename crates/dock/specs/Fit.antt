@@ -8,13 +8,13 @@ use Rattle.base.specs.First.{pick}
 use Rattle.mask.specs.Occupancy.{held}
 use Rattle.mask.specs.declared.Occupancy.{Occupancy}
 use Rattle.ids.specs.Free.{recordCount}
-use Rattle.records.specs.Records.{control, inFlight, recordAt}
+use Rattle.records.specs.Records.{inFlight, recordAt}
 use Rattle.records.specs.declared.Record.{Record}
 use Rattle.dock.specs.declared.Endpoint.{Endpoint}
 use Rattle.dock.specs.Limits.{limitsHold, recordsSize}
-use Rattle.dock.specs.Stores.{trbCount}
+use Rattle.dock.specs.Stores.{trbCount, deferred}
 
--- "Place above L-2 except L-1 just before the link's store": with a submission under way of which a TRB is stored. Its setup's place is one too.
+-- "Place above L-2 except L-1 just before the link's store": with a submission under way of which a TRB is stored. The place of its first TRB is one too.
 unfoldable pub placesFit : Endpoint → Bool
 placesFit e =
     (ltb (e .at .place + 1) (e .shape .slots) || (eqb (e .at .place + 1) (e .shape .slots) && e .work .busy && ltb 0 (e .work .stored)))
@@ -27,23 +27,23 @@ fits e =
     && placesFit e
     && not (eqb (e .account .next) 0)
 
--- What the next store of a submission is: the link where the place is L-1, else the next TRB, else for control the setup again.
+-- What the next store of a submission is: the link where the place is L-1, else the next TRB, else for a deferred TD the first TRB again.
 pub data Next : Type 0 where
   theLink : Next
   theTrb : Next
-  theSetup : Next
+  theFirst : Next
   none : Next
 
 unfoldable pub nextOf : Endpoint → Record → Next
 nextOf e v =
     pick (eqb (e .at .place + 1) (e .shape .slots)) theLink
     (pick (ltb (e .work .stored) (trbCount v)) theTrb
-    (pick (eqb (v .kind) control && eqb (e .work .stored) (trbCount v)) theSetup none))
+    (pick (deferred v && eqb (e .work .stored) (trbCount v)) theFirst none))
 
 abbrev pub isNone : Next → Bool
 isNone theLink = false
 isNone theTrb = false
-isNone theSetup = false
+isNone theFirst = false
 isNone none = true
 
 -- A record is held and in flight.

@@ -1,13 +1,13 @@
 -- The next store of a submission: "each changing one slot only". "The last store answers the id and doorbell word (the dci)."
 use Prim.Native.Nat.{ℕ, _+_, _%_, _^_}
-use mathlib.Core.Bool.{Bool, true, false, not, _&&_}
+use mathlib.Core.Bool.{Bool, true, not, _&&_}
 use mathlib.Core.List.{List, [], _∷_}
 use lib.Dec.{eqb}
 use lib.ListN.{length}
 use Rattle.base.specs.First.{pick, first}
-use Rattle.ring.specs.Ring.{storeAt, onward, around, linkTrb}
+use Rattle.ring.specs.Ring.{storeAt, onward, around}
 use Rattle.finished.specs.Finished.{clearPlace}
-use Rattle.records.specs.Records.{control, isoch, recordAt}
+use Rattle.records.specs.Records.{isoch, recordAt}
 use Rattle.records.specs.declared.Record.{Record}
 use Rattle.dock.specs.declared.Endpoint.{Endpoint}
 use Rattle.dock.specs.declared.Stored.{Stored}
@@ -15,9 +15,9 @@ use Rattle.dock.specs.declared.Stored.the-variants.{Slot, Last, Refused}
 use Rattle.dock.specs.declared.StoredOne.{StoredOne}
 use Rattle.dock.specs.declared.Work.{Work}
 use Rattle.dock.specs.Limits.{ringSize, packetsSize}
-use Rattle.dock.specs.Fit.{fitsWith, Next, theLink, theTrb, theSetup, none, nextOf, isNone}
+use Rattle.dock.specs.Fit.{fitsWith, Next, theLink, theTrb, theFirst, none, nextOf, isNone}
 use Rattle.dock.specs.State.{idle, moved}
-use Rattle.dock.specs.Stores.{setupTrb, trbOf, packetSize, nextFrame}
+use Rattle.dock.specs.Stores.{trbOf, packetSize, deferred, firstTrb, linkFor, nextFrame}
 
 -- Row 1, then 10: "a store .. with none under way".
 unfoldable pub storeTests : Endpoint → ℕ → ℕ → List ℕ → ℕ → List (Bool × ℕ)
@@ -41,36 +41,36 @@ runOn e v packets =
 abbrev pub frameOn : Endpoint → Record → ℕ
 frameOn e v = pick (eqb (v .kind) isoch) (nextFrame e) (e .periodic .frame)
 
--- "A control TD stores its setup with the opposite cycle, the rest as usual, then the setup again with the right one."
+-- The first TRB of a deferred TD goes out with the opposite cycle, the rest as usual.
 abbrev pub firstCycle : Endpoint → Record → Bool
-firstCycle e v = pick (eqb (v .kind) control && eqb (e .work .stored) 0) (not (e .at .cycle)) (e .at .cycle)
+firstCycle e v = pick (deferred v && eqb (e .work .stored) 0) (not (e .at .cycle)) (e .at .cycle)
 
 -- The endpoint after a store; "reaching L-1 it adds a second store, the link at L-1 with the old cycle, then place 0 and the cycle toggled".
 unfoldable pub stepped : Next → Endpoint → Record → List ℕ → Endpoint
 stepped theLink e v packets = moved e (around (e .at)) (e .periodic .frame) (worked (e .work) (e .work .stored) (e .work .address))
 stepped theTrb e v packets = moved e (onward (e .at)) (frameOn e v) (worked (e .work) (e .work .stored + 1) (runOn e v packets))
-stepped theSetup e v packets = moved e (e .at) (e .periodic .frame) (worked (e .work) (e .work .stored + 1) (e .work .address))
+stepped theFirst e v packets = moved e (e .at) (e .periodic .frame) (worked (e .work) (e .work .stored + 1) (e .work .address))
 stepped none e v packets = e
 
 -- The slot that the store changes,
 unfoldable pub slotStored : Next → Endpoint → ℕ
 slotStored theLink e = e .at .place
 slotStored theTrb e = e .at .place
-slotStored theSetup e = e .work .place
+slotStored theFirst e = e .work .place
 slotStored none e = 0
 
 -- the ring afterwards,
 unfoldable pub ringStored : Next → Endpoint → Record → List ℕ → List ℕ → List ℕ
-ringStored theLink e v packets ring = storeAt ring (e .at .place) (linkTrb (e .shape .base) false) (e .at .cycle)
+ringStored theLink e v packets ring = storeAt ring (e .at .place) (linkFor e v) (e .at .cycle)
 ringStored theTrb e v packets ring = storeAt ring (e .at .place) (trbOf e v packets (e .work .stored)) (firstCycle e v)
-ringStored theSetup e v packets ring = storeAt ring (e .work .place) (setupTrb v) (e .work .cycle)
+ringStored theFirst e v packets ring = storeAt ring (e .work .place) (firstTrb e v packets) (e .work .cycle)
 ringStored none e v packets ring = ring
 
 -- and the finished table: "a TRB's first store clears it .. The link's store and a setup's second store clear nothing."
 unfoldable pub finishedStored : Next → Endpoint → List ℕ → List ℕ
 finishedStored theLink e finished = finished
 finishedStored theTrb e finished = clearPlace finished (e .at .place)
-finishedStored theSetup e finished = finished
+finishedStored theFirst e finished = finished
 finishedStored none e finished = finished
 
 -- After the last store nothing is under way.

@@ -1,6 +1,6 @@
 -- The TRBs of a request, computed from its record and its packets. Document 01, "Words of a TRB" and "The order of stores".
 use Prim.Native.Nat.{ℕ, _+_, _%_, _^_, min, max}
-use mathlib.Core.Bool.{true, false, not, _&&_}
+use mathlib.Core.Bool.{Bool, true, false, not, _&&_}
 use mathlib.Core.List.{List}
 use lib.Dec.{eqb, ltb}
 use Rattle.base.specs.First.{pick}
@@ -8,6 +8,7 @@ use Rattle.base.specs.Fields.{bits}
 use Rattle.bursts.specs.Bursts.{burstsOf}
 use Rattle.trb.specs.declared.Trb.{Trb}
 use Rattle.trb.specs.declared.Trb.the-variants.{Normal, Setup, Data, Status, Isoch}
+use Rattle.ring.specs.Ring.{linkTrb}
 use Rattle.records.specs.Records.{control, bulk, interrupt, isoch}
 use Rattle.packets.specs.Packets.{packetCount, packetAt}
 use Rattle.records.specs.declared.Record.{Record}
@@ -65,6 +66,27 @@ trbOf e v packets k =
     pick (eqb (v .kind) control)
     (pick (eqb k 0) (setupTrb v) (pick (eqb k 1 && ltb 0 (v .length)) (dataTrb v) (statusTrb v)))
     (pick (eqb (v .kind) isoch) (isochTrb e v k (packetSize e packets k)) (normalTrb v))
+
+-- ---- a TD by name
+
+-- Whether a TD stores its first TRB last.
+-- "A control TD stores its setup with the opposite cycle, the rest as usual, then the setup again with the right one."
+unfoldable pub deferred : Record → Bool
+deferred v = eqb (v .kind) control
+
+-- The first TRB, which a deferred TD stores again.
+abbrev pub firstTrb : Endpoint → Record → List ℕ → Trb
+firstTrb e v packets = trbOf e v packets 0
+
+-- Whether the link is chained, should a TD's stores come to L-1: no TRB of a request is chained to the next.
+unfoldable pub chained : Endpoint → Record → Bool
+chained e v = false
+
+-- The link of a record's TD.
+abbrev pub linkFor : Endpoint → Record → Trb
+linkFor e v = linkTrb (e .shape .base) (chained e v)
+
+-- ---- the next frame
 
 -- "The next frame number moves by the interval modulo 2,048 at each packet's store." "Interval at least 1 (0 is taken as 1)."
 abbrev pub nextFrame : Endpoint → ℕ

@@ -31,7 +31,7 @@ finish (suc n) e ring finished records packets =
     let s = store e ring finished records packets in
     afterStore (s .0 .answer) (s .0 .endpoint) (s .1) (s .2) (λ e ring finished. finish n e ring finished records packets)
 
--- A request's stores: its TRBs, a link, and a setup again. "The whole is proved equal to its stores in order."
+-- A request's stores: its TRBs, a link, and the first TRB again. "The whole is proved equal to its stores in order."
 abbrev pub mostStores : Request → ℕ → ℕ
 mostStores request count = required request count + 2
 

@@ -1,6 +1,6 @@
 -- A packet's store, and all of them, as the code makes them. Assumes nothing.
 use Prim.Native.Nat.{ℕ, suc, _+_, _-_, _%_, _^_, _<_, _≤_, max}
-use mathlib.Core.Bool.{Bool, not}
+use mathlib.Core.Bool.{Bool, false, not}
 use lib.Dec.{eqb}
 use lib.ListN.{length, getD}
 use mathlib.Core.List.{List}
@@ -21,7 +21,7 @@ penned s pen size x = (penOn s pen size (x .0), x .1, x .2)
 pub packet-is : (shape : Shape) (s : Periodic) (incoming : Bool) (size : ℕ) (more : Bool) (pen : Pen) (ring finished : List ℕ)
     {trb : Trb} {q : Position} {ring₁ finished₁ : List ℕ} {address frame : ℕ}
     → trb ≡ packetTrb s incoming pen size more
-    → _≡_ {A = Position × List ℕ × List ℕ} (q, ring₁, finished₁) (putTrb shape (pen .at) trb (pen .at .cycle) ring finished)
+    → _≡_ {A = Position × List ℕ × List ℕ} (q, ring₁, finished₁) (putTrb shape false (pen .at) trb (pen .at .cycle) ring finished)
     → address ≡ (pen .address + size) % 2 ^ 64
     → frame ≡ (pen .frame + max 1 (s .interval)) % 2048
     → _≡_ {A = Pen × List ℕ × List ℕ} (record { at = q; address = address; frame = frame }, ring₁, finished₁)
@@ -30,7 +30,7 @@ unfolding packetPut
 packet-is shape s incoming size more pen ring finished {trb} {q} {ring₁} {finished₁} {address} {frame} is stored run moved =
     rw (run, moved)
     (ap (penned s pen size) stored
-    ∙ ap (λ (t : Trb). penned s pen size (putTrb shape (pen .at) t (pen .at .cycle) ring finished)) is)
+    ∙ ap (λ (t : Trb). penned s pen size (putTrb shape false (pen .at) t (pen .at .cycle) ring finished)) is)
 
 -- ---- the packets
 

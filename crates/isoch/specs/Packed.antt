@@ -12,7 +12,7 @@ use Rattle.dock.specs.declared.Periodic.{Periodic}
 use Rattle.dock.specs.declared.Shape.{Shape}
 use Rattle.dock.specs.Stores.{field17}
 use Rattle.isoch.specs.declared.Pen.{Pen}
-use Rattle.striding.specs.Controls.{putSame}
+use Rattle.striding.specs.Deferred.{putSame}
 
 -- The TRB of a packet of so many bytes; `more` says that it is not the last.
 abbrev pub packetTrb : Periodic → Bool → Pen → ℕ → Bool → Trb
@@ -25,10 +25,10 @@ abbrev pub penOn : Periodic → Pen → ℕ → Position → Pen
 penOn s pen size p =
     record { at = p; address = (pen .address + size) % 2 ^ 64; frame = (pen .frame + max 1 (s .interval)) % 2048 }
 
--- One packet's store, and the pen behind it.
+-- One packet's store, and the pen behind it. A packet is a TD of its own: its link is not chained.
 unfoldable pub packetPut : Shape → Periodic → Bool → ℕ → Bool → Pen → List ℕ → List ℕ → Pen × List ℕ × List ℕ
 packetPut shape s incoming size more pen ring finished =
-    let d = putSame shape (pen .at) (packetTrb s incoming pen size more) ring finished in (penOn s pen size (d .0), d .1, d .2)
+    let d = putSame shape false (pen .at) (packetTrb s incoming pen size more) ring finished in (penOn s pen size (d .0), d .1, d .2)
 
 -- So many packets, from packet k on.
 unfoldable pub packetsPut : ℕ → ℕ → Shape → Periodic → Bool → List ℕ → Pen → List ℕ → List ℕ → Pen × List ℕ × List ℕ

@@ -60,7 +60,7 @@ fn frame_on(frame: u16, interval: u8) -> u16
     ((frame as u32 + step as u32) % 2048) as u16
 }
 
-// One packet's store.
+// One packet's store. A packet is a TD of its own: its link is not chained.
 fn put_packet(
     ring: &mut [u32],
     finished: &mut [u32],
@@ -77,7 +77,7 @@ fn put_packet(
 {
     let trb = packet_trb(s, incoming, pen, size, bursts, more);
     let p = pen.at;
-    let q = put::put(ring, finished, shape, p, trb);
+    let q = put::put(ring, finished, shape, false, p, trb);
     Pen {
         at: q,
         address: std::num::wrapping_add_u64(pen.address, size),

@@ -7,6 +7,6 @@ use lib.Dec.{eqb, ltb}
 unfoldable pub placeFits : ℕ → ℕ → Bool → ℕ → Bool
 placeFits slots place busy stored = ltb (place + 1) slots || (eqb (place + 1) slots && busy && ltb 0 stored)
 
--- and that of the setup of a submission under way.
-unfoldable pub setupFits : ℕ → Bool → ℕ → Bool
-setupFits slots busy place = not busy || ltb (place + 1) slots
+-- and that of the first TRB of a submission under way.
+unfoldable pub firstFits : ℕ → Bool → ℕ → Bool
+firstFits slots busy place = not busy || ltb (place + 1) slots

@@ -3,7 +3,7 @@ ghost use mathlib.Core.Path.{_≡_};
 ghost use Prim.Native.Nat.{_*_, _<_};
 ghost use lib.Dec.{eqb};
 ghost use Rattle.dock.specs.Limits.{limitsHold, ringSize};
-ghost use Rattle.limits.specs.Places.{placeFits, setupFits};
+ghost use Rattle.limits.specs.Places.{placeFits, firstFits};
 use dock::Identity;
 use dock::Shape;
 
@@ -54,9 +54,9 @@ pub fn stands(slots: usize, place: usize, busy: bool, stored: usize) -> bool
     0 < stored
 }
 
-// The place of the setup that is to be stored again.
-pub fn setup_stands(slots: usize, busy: bool, place: usize) -> bool
-    ensures { λ r. ⌜ r ≡ setupFits slots busy place ⌝ }
+// The place of the first TRB of the submission under way.
+pub fn first_stands(slots: usize, busy: bool, place: usize) -> bool
+    ensures { λ r. ⌜ r ≡ firstFits slots busy place ⌝ }
 {
     if !busy {
         return true;

@@ -290,6 +290,6 @@ module _ (K : ℕ) where
       plain (asks.Interrupt incoming) address size = (plain-trb _ (λ q. omega arith), tt)
       plain (asks.Isoch incoming) address size = isoch-plain incoming (p .packet) (p .burst) (stored address size) (atLeastOne lengths)
 
-pub link-is : (base : ℕ) → linkType (bare (linkTrb base false)) ≡ true
+pub link-is : (base : ℕ) (chain : Bool) → linkType (bare (linkTrb base chain)) ≡ true
 unfolding linkType
-link-is base = eq-eqb (typeOf (bare (linkTrb base false))) 6 (type-is (linkTrb base false) false)
+link-is base chain = eq-eqb (typeOf (bare (linkTrb base chain))) 6 (type-is (linkTrb base chain) false)

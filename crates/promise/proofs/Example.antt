@@ -35,7 +35,7 @@ use Rattle.dock.specs.Reclaim.{leave, mismatched, completeTests, complete, plac
 use Rattle.dock.specs.Run.{madeOf, making, configures, starts, stores, reclaims, cancels}
 use Rattle.dock.specs.Start.{startNo, startTests, crowded, tooLong, beyond, charged, recordTaken, idTaken, startedEndpoint, startedRecords, writePackets, start}
 use Rattle.dock.specs.Store.{store, storeNo, storeTests, stepped, slotStored, ringStored, finishedStored, settled, storedAnswer}
-use Rattle.dock.specs.Stores.{trbOf, trbCount}
+use Rattle.dock.specs.Stores.{trbOf, trbCount, deferred, chained}
 use Rattle.dock.specs.Worth.{accepted, counts, worth}
 use Rattle.promise.specs.Controller.{Entry, does}
 use Rattle.promise.specs.Run.{World, fromMaking, admitted, Move, calls, hands, steps, act, may, admits, takes, isFor, handed, play, allowed, Run, made, andThen}
@@ -83,7 +83,7 @@ outset = fromMaking (madeOf (make (tables 20) (tables 20) (tables 768) (tables 4
 
 -- The world after the moves, and whether each of them may be made in its turn.
 ended : World × Bool
-unfolding outset allowed play admits takes isFor handed running.stepped does accepted cycle.cycleOf owned typeOf wordsOf wordsAt put putWords storeAt isSlot slotOf finishedAt fillPlace packetAt putPacket recordAt setWord masks.held masks.lowest masks.taken masks.freed freeId freeFrom heldBy any findFrom findId cancel cancelNo cancelTests configure plainNo plainTests fits placesFit strays fitsWith nextOf slotFor foreign handOverTests handOverNo handOver limitsHold leave mismatched completeTests complete placeOf reclaimBulk reclaimControl closeBelow total sweep reclaimIso reclaimTests reclaimNo reclaimFlying reclaim startNo startTests crowded tooLong beyond charged recordTaken idTaken startedEndpoint startedRecords writePackets start store storeNo storeTests stepped slotStored ringStored finishedStored settled storedAnswer trbOf trbCount burstsOf packetsOf worth counts
+unfolding outset allowed play admits takes isFor handed running.stepped does accepted cycle.cycleOf owned typeOf wordsOf wordsAt put putWords storeAt isSlot slotOf finishedAt fillPlace packetAt putPacket recordAt setWord masks.held masks.lowest masks.taken masks.freed freeId freeFrom heldBy any findFrom findId cancel cancelNo cancelTests configure plainNo plainTests fits placesFit strays fitsWith nextOf slotFor foreign handOverTests handOverNo handOver limitsHold leave mismatched completeTests complete placeOf reclaimBulk reclaimControl closeBelow total sweep reclaimIso reclaimTests reclaimNo reclaimFlying reclaim startNo startTests crowded tooLong beyond charged recordTaken idTaken startedEndpoint startedRecords writePackets start store storeNo storeTests stepped slotStored ringStored finishedStored settled storedAnswer trbOf trbCount burstsOf packetsOf worth counts deferred chained
 ended = (play outset moves, allowed outset moves)
 
 all-allowed : allowed outset moves ≡ true
@@ -99,7 +99,7 @@ run-played w (m ∷ ms) r e =
     run-played (act w m) ms (andThen r m (k .0)) (k .1)
 
 reached : Run (play outset moves)
-unfolding outset
+unfolding outset deferred chained
 reached = run-played outset moves (made (making (tables 20) (tables 20) (tables 768) (tables 4096) shape who refl)) all-allowed
 
 abbrev entry : ℕ → ℕ → ℕ → ℕ → ℕ → Entry

@@ -1,7 +1,7 @@
 -- What the theorem rests on, each of every state that a run reaches:
 --   `outstanding-sum`: outstanding is the sum of the counts of the requests in flight.
 --   `leaves-consumed`: a request leaves flight only when all its TRBs are consumed.
---   `not-overwritten`: no store overwrites a TRB that is not consumed, but the setup's second store, which stores the same TRB again.
+--   `not-overwritten`: no store overwrites a TRB that is not consumed, but the second store of a TD's first TRB, which stores the same TRB again.
 --   `event-latest`: the event in a finished place is of the latest TRB stored there, and that one is consumed.
 -- Assumes nothing.
 use Prim.Native.Nat.{ℕ, _+_, _-_, _<_, _≤_}
@@ -32,7 +32,7 @@ use Rattle.dock.specs.declared.ReclaimedOne.{ReclaimedOne}
 use Rattle.dock.specs.declared.Request.{Request}
 use Rattle.dock.specs.Cancel.{cancel, cancelNo}
 use Rattle.dock.specs.Configure.{configure, plainNo}
-use Rattle.dock.specs.Fit.{flies, Next, theLink, theTrb, theSetup, isNone}
+use Rattle.dock.specs.Fit.{flies, Next, theLink, theTrb, theFirst, isNone}
 use Rattle.dock.specs.Fit as fit
 use Rattle.dock.specs.Reclaim.{codeOf, leave, nothing, reclaim}
 use Rattle.dock.specs.Start.{recordTaken, startNo, startedEndpoint, startedRecords}
@@ -63,7 +63,7 @@ use Rattle.promise.proofs.Awaited.{next-at}
 use Rattle.promise.proofs.Handed.{all-stored}
 use Rattle.promise.proofs.Kept.{modelIn, Under, rests, opens, shows, hides, Kept}
 use Rattle.promise.proofs.Laid.{bared, bared-length}
-use Rattle.promise.proofs.Order.{control-unseen}
+use Rattle.promise.proofs.Order.{deferred-unseen}
 use Rattle.promise.proofs.Reach.{run-reached, run-sound, run-kept}
 use Rattle.promise.proofs.Reclaimed.{place-at, left-heard}
 use Rattle.promise.proofs.Upcoming.{left-count}
@@ -171,10 +171,10 @@ module _ (w : World) (k : Kept w) (busy : w .dock .endpoint .work .busy ≡ true
       let far = round-behind w k j (k .stored) (sym (slot-is w k j) ∙ same ∙ sym at) (omega (arith, stored-is w k)) in
       omega (arith, few-wait w k, k .split)
 
-  -- The setup is stored again in its own slot.
-  behind-setup : length (w .consumed) ≤ firstUnderWay w → slotOf (slots w) j ≡ w .dock .endpoint .work .place
+  -- The first TRB is stored again in its own slot.
+  behind-first : length (w .consumed) ≤ firstUnderWay w → slotOf (slots w) j ≡ w .dock .endpoint .work .place
       → (j < length (w .consumed)) ⊎ (j ≡ firstUnderWay w)
-  behind-setup unseen same =
+  behind-first unseen same =
       let b = k .begun busy in
       let first = firstUnderWay w in
       let in-one : (pos (k .K) j) .place ≡ (pos (k .K) first) .place = sym (slot-is w k j) ∙ same ∙ sym (b .first-at) in
@@ -200,10 +200,10 @@ module _ (w : World) where
   unfolding slotStored
   slot-of-trb q = ap (λ (n : Next). slotStored n (w .dock .endpoint)) q
 
-  slot-of-setup : nextStore (w .dock .endpoint) (w .dock .records) ≡ theSetup
+  slot-of-first : nextStore (w .dock .endpoint) (w .dock .records) ≡ theFirst
       → slotChanged (w .dock .endpoint) (w .dock .records) ≡ w .dock .endpoint .work .place
   unfolding slotStored
-  slot-of-setup q = ap (λ (n : Next). slotStored n (w .dock .endpoint)) q
+  slot-of-first q = ap (λ (n : Next). slotStored n (w .dock .endpoint)) q
 
 module _ {w : World} (r : Run w) (busy : w .dock .endpoint .work .busy ≡ true) (j : ℕ) (was : j < storedCount w)
     (same : slotOf (slots w) j ≡ slotChanged (w .dock .endpoint) (w .dock .records)) where
@@ -216,20 +216,20 @@ module _ {w : World} (r : Run w) (busy : w .dock .endpoint .work .busy ≡ true)
       let number = store-number (run-reached r) ∙ ap (λ (b : Bool). pick b 0 10) busy in
       store-admitted (d .endpoint) (d .ring) (d .finished) (d .records) (d .packets) number .course .more
 
-  by-next : (n : Next) → now ≡ n → (j < length (w .consumed)) ⊎ ((now ≡ theSetup) × (j ≡ firstUnderWay w))
+  by-next : (n : Next) → now ≡ n → (j < length (w .consumed)) ⊎ ((now ≡ theFirst) × (j ≡ firstUnderWay w))
   by-next theLink q = absurd (not-link w (run-kept r) busy j was (because (w .dock .endpoint) (recordUnderWay w) theLink q) (same ∙ slot-of-link w q))
   by-next theTrb q = inl (behind-trb w (run-kept r) busy j was (because (w .dock .endpoint) (recordUnderWay w) theTrb q .0) (same ∙ slot-of-trb w q))
-  by-next theSetup q =
-      let c = because (w .dock .endpoint) (recordUnderWay w) theSetup q in
-      let unseen = front-short (w .consumed) (admitted w) (firstUnderWay w) (control-unseen r busy (c .1)) in
+  by-next theFirst q =
+      let c = because (w .dock .endpoint) (recordUnderWay w) theFirst q in
+      let unseen = front-short (w .consumed) (admitted w) (firstUnderWay w) (deferred-unseen r busy (c .1)) in
       ⊎-elim
       (λ (l : j < length (w .consumed)). inl l)
       (λ (z : j ≡ firstUnderWay w). inr (q, z))
-      (behind-setup w (run-kept r) busy j was unseen (same ∙ slot-of-setup w q))
+      (behind-first w (run-kept r) busy j was unseen (same ∙ slot-of-first w q))
   by-next fit.none q = absurd (false≢true (sym some-store ∙ ap isNone q))
 
-  -- A TRB that is stored, in the slot that the next store changes: it is consumed, or it is the setup that is stored again.
-  pub not-overwritten : (j < length (w .consumed)) ⊎ ((nextStore (w .dock .endpoint) (w .dock .records) ≡ theSetup) × (j ≡ firstUnderWay w))
+  -- A TRB that is stored, in the slot that the next store changes: it is consumed, or it is the first of its TD, stored again.
+  pub not-overwritten : (j < length (w .consumed)) ⊎ ((nextStore (w .dock .endpoint) (w .dock .records) ≡ theFirst) × (j ≡ firstUnderWay w))
   not-overwritten = by-next now refl
 
 -- ---- a request leaves flight

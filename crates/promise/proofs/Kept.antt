@@ -25,7 +25,7 @@ use Rattle.dock.specs.declared.Endpoint.{Endpoint}
 use Rattle.dock.specs.Fit.{flies, theTrb}
 use Rattle.dock.specs.Reclaim.{codeOf}
 use Rattle.dock.specs.Store.{stepped}
-use Rattle.dock.specs.Stores.{trbCount, trbOf, setupTrb}
+use Rattle.dock.specs.Stores.{trbCount, trbOf, deferred, firstTrb, linkFor}
 use Rattle.dock.specs.Worth.{accepted}
 use Rattle.order.specs.Flat.{flat}
 use Rattle.order.specs.Model.{idle, opening, busy, placed}
@@ -67,7 +67,7 @@ modelIn K w before work =
 
 -- If a link stands in slot L-1, it is the ring's own: it leads to slot 0 and toggles.
 abbrev pub LinkSlot : (K base : ℕ) → List ℕ → Type 0
-LinkSlot K base ring = typeOf (wordsAt ring K) ≡ 6 → (c : Bool) × (wordsAt ring K ≡ wordsOf (linkTrb base false) c)
+LinkSlot K base ring = typeOf (wordsAt ring K) ≡ 6 → (chain c : Bool) × (wordsAt ring K ≡ wordsOf (linkTrb base chain) c)
 
 -- ---- the submission under way
 
@@ -76,9 +76,9 @@ unfoldable pub upcoming : ℕ → Endpoint → Record → List ℕ → List Trb
 upcoming zero e v packets = []
 upcoming (suc n) e v packets = trbOf e v packets (e .work .stored) ∷ upcoming n (stepped theTrb e v packets) v packets
 
--- The words of the link that the dock stores.
-abbrev pub linkWords : Endpoint → Words
-linkWords e = bare (linkTrb (e .shape .base) false)
+-- The words of the link that the dock stores for a record's TD.
+abbrev pub linkWords : Endpoint → Record → Words
+linkWords e v = bare (linkFor e v)
 
 module _ (K : ℕ) (e : Endpoint) (records packets : List ℕ) where
   abbrev pub inWork : Record
@@ -88,9 +88,9 @@ module _ (K : ℕ) (e : Endpoint) (records packets : List ℕ) where
   abbrev pub left : List Words
   left = bared (upcoming (trbCount inWork - e .work .stored) e inWork packets)
 
-  -- The place and the cycle that are kept for the setup.
-  abbrev pub setupAt : model.Position
-  setupAt = record { place = e .work .place; cycle = e .work .cycle }
+  -- The place and the cycle that are kept for the first TRB.
+  abbrev pub firstAt : model.Position
+  firstAt = record { place = e .work .place; cycle = e .work .cycle }
 
   module _ (mark before : ℕ) (work : model.Work (flat K)) where
     -- No submission is under way.
@@ -98,33 +98,33 @@ module _ (K : ℕ) (e : Endpoint) (records packets : List ℕ) where
       pub free : e .work .busy ≡ false
       pub is : work ≡ idle
 
-    -- A control request of which nothing is stored. `mark` is the number of its first TRB.
+    -- A deferred TD of which nothing is stored. `mark` is the number of its first TRB.
     pub record Opens : Type 0 where
       pub taken : e .work .busy ≡ true
-      pub kind : inWork .kind ≡ control
+      pub late : deferred inWork ≡ true
       pub none-stored : e .work .stored ≡ 0
-      pub at-setup : setupAt ≡ positionOf (e .at)
-      pub setup : Words
+      pub at-first : firstAt ≡ positionOf (e .at)
+      pub head : Words
       pub others : List Words
-      pub left-are : left ≡ setup ∷ others
+      pub left-are : left ≡ head ∷ others
       pub marked : before ≡ mark
-      pub is : work ≡ opening setup others (linkWords e)
+      pub is : work ≡ opening head others (linkWords e inWork)
 
-    -- A request of another kind: each TRB stored is the controller's at once.
+    -- A TD that is not deferred: each TRB stored is the controller's at once.
     pub record Shows : Type 0 where
       pub taken : e .work .busy ≡ true
-      pub kind : inWork .kind ≡ control → ⊥
+      pub early : deferred inWork ≡ false
       pub counted : e .work .stored ≤ trbCount inWork
-      pub is : work ≡ busy left (linkWords e) none
+      pub is : work ≡ busy left (linkWords e inWork) none
 
-    -- A control request of which a TRB is stored: none is the controller's before the setup is stored again.
+    -- A deferred TD of which a TRB is stored: none is the controller's before the first is stored again.
     pub record Hides : Type 0 where
       pub taken : e .work .busy ≡ true
-      pub kind : inWork .kind ≡ control
+      pub late : deferred inWork ≡ true
       pub some-stored : 0 < e .work .stored
       pub counted : e .work .stored ≤ trbCount inWork
       pub marked : before ≡ mark
-      pub is : work ≡ busy left (linkWords e) (some (placed (flat K) setupAt (bare (setupTrb inWork))))
+      pub is : work ≡ busy left (linkWords e inWork) (some (placed (flat K) firstAt (bare (firstTrb e inWork packets))))
 
     pub data Under : Type 0 where
       rests : Rests → Under

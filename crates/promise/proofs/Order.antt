@@ -1,6 +1,7 @@
 -- DEMAND 3, of every state that a run reaches. Document 01's calls in any order and with any arguments, and the controller's steps anywhere:
 --   1. `in-order`: what the controller has consumed is a front part of the TRBs of the admitted requests, in order, in their slots and with their final words.
---   2. `control-unseen`: while a control submission is under way, it is a front part of those admitted before it: none of its own is consumed.
+--   2. `deferred-unseen`: while a submission whose TD is deferred is under way, it is a front part of those admitted before it: none of its own is
+--      consumed. `control-unseen`: so it is while a control submission is under way.
 --      `under-way-last`: its own are the last of the list.
 --   3. `drains`: with no submission under way, L-1 steps of the controller, or more, consume the remainder; `drains-by-count`: one step more than TRBs wait is
 --      enough; `in-ring`: until then the remainder stands in the ring, slot by slot, with its final words.
@@ -11,8 +12,10 @@ use mathlib.Core.List.{List, _++_}
 use mathlib.Core.Path.{_≡_, refl, sym, ap, _∙_, subst}
 use native.Mathlib.Omega.{arith}
 use lib.ListN.{length, take}
+use Rattle.base.proofs.Decide.{if-so}
 use Rattle.records.specs.Records.{control}
-use Rattle.dock.specs.Stores.{trbCount}
+use Rattle.dock.specs.Stores.{trbCount, deferred}
+use Rattle.dock.proofs.TdLaws.{by-deferred}
 use Rattle.order.specs.Flat.{flat}
 use Rattle.order.specs.Model.{Deferring}
 use Rattle.order.specs.Model as model
@@ -41,18 +44,18 @@ module _ (w : World) (k : Kept w) where
   kept-in-order : Front (w .consumed) (admitted w)
   kept-in-order = rw (← admitted-is) (inv-in-order m (k .inv))
 
-  -- While a control submission is under way, the model's TD is deferred, and the books have its mark.
-  deferring : w .dock .endpoint .work .busy ≡ true → recordUnderWay w .kind ≡ control
+  -- While a submission whose TD is deferred is under way, so is the model's TD, and the books have its mark.
+  deferring : w .dock .endpoint .work .busy ≡ true → deferred (recordUnderWay w) ≡ true
       → Under (k .K) (w .dock .endpoint) (w .dock .records) (w .dock .packets) (firstUnderWay w) (k .before) (k .work)
       → Deferring (k .work) × (k .before ≡ firstUnderWay w)
-  deferring busy kind (rests u) = absurd (false≢true (sym (u .free) ∙ busy))
-  deferring busy kind (opens u) = (rw (u .is) tt, u .marked)
-  deferring busy kind (shows u) = absurd (u .kind kind)
-  deferring busy kind (hides u) = (rw (u .is) tt, u .marked)
+  deferring busy late (rests u) = absurd (false≢true (sym (u .free) ∙ busy))
+  deferring busy late (opens u) = (rw (u .is) tt, u .marked)
+  deferring busy late (shows u) = absurd (false≢true (sym (u .early) ∙ late))
+  deferring busy late (hides u) = (rw (u .is) tt, u .marked)
 
-  kept-unseen : w .dock .endpoint .work .busy ≡ true → recordUnderWay w .kind ≡ control → Front (w .consumed) (take (firstUnderWay w) (admitted w))
-  kept-unseen busy kind =
-      let d = deferring busy kind (k .under) in
+  kept-unseen : w .dock .endpoint .work .busy ≡ true → deferred (recordUnderWay w) ≡ true → Front (w .consumed) (take (firstUnderWay w) (admitted w))
+  kept-unseen busy late =
+      let d = deferring busy late (k .under) in
       rw (← admitted-is, ← d .1) (inv-deferred-unseen m (k .inv) (d .0))
 
 -- The model's steps are the controller's.
@@ -67,9 +70,13 @@ steps-are K (suc n) w before work = ap (model.steps n) (step-is K w before work)
 pub in-order : {w : World} → Run w → Front (w .consumed) (admitted w)
 in-order {w} r = kept-in-order w (run-kept r)
 
+pub deferred-unseen : {w : World} → Run w → w .dock .endpoint .work .busy ≡ true → deferred (recordUnderWay w) ≡ true
+    → Front (w .consumed) (take (firstUnderWay w) (admitted w))
+deferred-unseen {w} r busy late = kept-unseen w (run-kept r) busy late
+
 pub control-unseen : {w : World} → Run w → w .dock .endpoint .work .busy ≡ true → recordUnderWay w .kind ≡ control
     → Front (w .consumed) (take (firstUnderWay w) (admitted w))
-control-unseen {w} r busy kind = kept-unseen w (run-kept r) busy kind
+control-unseen {w} r busy kind = deferred-unseen r busy (if-so (by-deferred (recordUnderWay w)) kind)
 
 pub drains : {w : World} → Run w → w .dock .endpoint .work .busy ≡ false → (n : ℕ) → slots w - 1 ≤ n → stepping n w .consumed ≡ admitted w
 drains {w} r free n enough =

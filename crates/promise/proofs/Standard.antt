@@ -56,8 +56,8 @@ module _ (w : World) (h : Sound (w .dock)) (k : Kept w) where
       let link = k .link-slot (subst (λ (i : ℕ). typeOf (wordsAt (w .dock .ring) i) ≡ 6) at is) in
       let limits = by-limits (w .dock .endpoint .shape) (w .dock .endpoint .who) .so (h .limits) in
       ap (λ (i : ℕ). past base (wordsAt (w .dock .ring) i) c) at
-      ∙ ap (λ (x : Words). past base x c) (link .1)
-      ∙ past-link base false (link .0) c (omega (arith, limits .base-aligned)) (omega (arith, limits .base-room, limits .slots-least))
+      ∙ ap (λ (x : Words). past base x c) (link .2)
+      ∙ past-link base (link .0) (link .1) c (omega (arith, limits .base-aligned)) (omega (arith, limits .base-room, limits .slots-least))
 
   past-plain : eqb (typeOf t) 6 ≡ false → past base t c ≡ record { slot = c .slot + 1; state = c .state }
   unfolding past

@@ -1,4 +1,4 @@
--- The start of a submission keeps the invariant: an admitted one is the model's begin of a TD with the request's TRBs, deferred for a control request, and
+-- The start of a submission keeps the invariant: an admitted one is the model's begin of a TD with the request's TRBs, deferred as its record says, and
 -- its record has them. Assumes nothing.
 use Prim.Native.Nat.{ℕ, suc, _+_, _-_, _<_, _≤_}
 use mathlib.Core.Bool.{Bool, true, false, false≢true}
@@ -18,7 +18,7 @@ use Rattle.mask.specs.Occupancy.{held}
 use Rattle.mask.specs.declared.Occupancy.{Occupancy}
 use Rattle.trb.specs.declared.Trb.{Trb}
 use Rattle.trb.specs.declared.Words.{Words}
-use Rattle.records.specs.Records.{control, inFlight, recordAt}
+use Rattle.records.specs.Records.{inFlight, recordAt}
 use Rattle.records.specs.declared.Record.{Record}
 use Rattle.dock.specs.declared.Endpoint.{Endpoint}
 use Rattle.dock.specs.declared.Request.{Request}
@@ -27,7 +27,7 @@ use Rattle.dock.specs.declared.What.the-variants as asks
 use Rattle.dock.specs.Fit.{flies}
 use Rattle.dock.specs.Requests.{kindOf, required, withWhat, recordFor}
 use Rattle.dock.specs.Start.{startNo, recordTaken, idTaken, charged, writePackets, startedEndpoint, startedRecords}
-use Rattle.dock.specs.Stores.{trbCount}
+use Rattle.dock.specs.Stores.{trbCount, deferred, chained}
 use Rattle.dock.proofs.BooksLaws.{by-flies}
 use Rattle.dock.proofs.Reached.{Sound}
 use Rattle.dock.specs.Run.{stateOf}
@@ -50,13 +50,6 @@ use Rattle.promise.proofs.Kept.{positionOf, modelIn, linkWords, left, U
 use Rattle.promise.proofs.Laid.{bare, bared, bared-length, bared-append}
 
 -- ---- the record of an admitted request
-
--- Only a control request is deferred.
-abbrev deferred : What → Bool
-deferred (asks.Control type request value index) = true
-deferred (asks.Bulk incoming) = false
-deferred (asks.Interrupt incoming) = false
-deferred (asks.Isoch incoming) = false
 
 -- The count of its record goes by its kind.
 record-counts : (request : Request) (count id place : ℕ) → Counts (recordFor request count id place)
@@ -159,36 +152,35 @@ cons-of : (l : List Trb) → 0 < length l → (t : Trb) × ((ts : List Trb) × (
 cons-of [] h = absurd (omega arith)
 cons-of (t ∷ ts) h = (t, (ts, refl))
 
-module _ (K : ℕ) (e : Endpoint) (what : What) (t : Trb) (ts : List Trb) where
+module _ (K : ℕ) (e : Endpoint) (v : Record) (t : Trb) (ts : List Trb) where
   abbrev tdOf : Td (flat K)
-  tdOf = record { first = bare t; rest = bared ts; link = linkWords e; deferred = deferred what }
+  tdOf = record { first = bare t; rest = bared ts; link = linkWords e v; deferred = deferred v }
 
--- What is under way after a start: a control request opens; of any other the first TRB will be the controller's at once.
+-- What is under way after a start: a deferred TD opens; of any other the first TRB will be the controller's at once.
 module _ (K : ℕ) (e : Endpoint) (records packets : List ℕ) (mark before : ℕ) (t : Trb) (ts : List Trb)
-    (taken : e .work .busy ≡ true) (none-stored : e .work .stored ≡ 0) (are : left K e records packets ≡ bare t ∷ bared ts) where
-  shown : (recordAt records (e .work .number) .kind ≡ control → ⊥)
-      → Under K e records packets mark before (busy (bare t ∷ bared ts) (linkWords e) none)
-  shown other =
-      shows (record { taken = taken; kind = other; counted = omega arith; is = ap (λ (l : List Words). busy l (linkWords e) none) (sym are) })
+    (taken : e .work .busy ≡ true) (none-stored : e .work .stored ≡ 0) (are : left K e records packets ≡ bare t ∷ bared ts)
+    (at : record { place = e .work .place; cycle = e .work .cycle } ≡ positionOf (e .at)) (marked : before ≡ mark) where
+  abbrev v : Record
+  v = recordAt records (e .work .number)
 
-  under-way : (what : What) → recordAt records (e .work .number) .kind ≡ kindOf what
-      → record { place = e .work .place; cycle = e .work .cycle } ≡ positionOf (e .at) → before ≡ mark
-      → Under K e records packets mark before (starts (tdOf K e what t ts) (deferred what))
-  under-way (asks.Control type request value index) written at marked =
+  under-by : (late : Bool) → deferred v ≡ late → Under K e records packets mark before (starts (tdOf K e v t ts) late)
+  under-by true late =
       opens (record {
         taken = taken;
-        kind = written;
+        late = late;
         none-stored = none-stored;
-        at-setup = at;
-        setup = bare t;
+        at-first = at;
+        head = bare t;
         others = bared ts;
         left-are = are;
         marked = marked;
         is = refl;
       })
-  under-way (asks.Bulk incoming) written at marked = shown (λ q. omega (arith, written))
-  under-way (asks.Interrupt incoming) written at marked = shown (λ q. omega (arith, written))
-  under-way (asks.Isoch incoming) written at marked = shown (λ q. omega (arith, written))
+  under-by false early =
+      shows (record { taken = taken; early = early; counted = omega arith; is = ap (λ (l : List Words). busy l (linkWords e v) none) (sym are) })
+
+  under-way : Under K e records packets mark before (starts (tdOf K e v t ts) (deferred v))
+  under-way = under-by (deferred v) refl
 
 -- ---- an admitted start
 
@@ -220,6 +212,10 @@ module _ (w : World) (request : Request) (lengths : List ℕ) (h : Sound (w .doc
 
   s : Starting e old (w .dock .packets) request lengths
   s = start-admitted e old (w .dock .packets) request lengths passed
+
+  -- The record that is kept of it.
+  abbrev kept : Record
+  kept = recordAt records r
 
   written : recordAt records r ≡ recordFor request (length lengths) id (e .at .place)
   written = record-written e old (w .dock .packets) request lengths passed
@@ -253,7 +249,7 @@ module _ (w : World) (request : Request) (lengths : List ℕ) (h : Sound (w .doc
   started-with t ts are =
       let K = k .K in
       let m = modelIn K w (k .before) (k .work) in
-      let td = tdOf K e (request .what) t ts in
+      let td = tdOf K begunWith kept t ts in
       let total = length (w .trbs) in
       let count : length trbs ≡ required request (length lengths) = trbs-count (e .periodic) request lengths in
       let count-t : length trbs ≡ suc (length ts) = ap length are in
@@ -265,15 +261,15 @@ module _ (w : World) (request : Request) (lengths : List ℕ) (h : Sound (w .doc
         running = refl;
         room = omega (arith, s .room, k .shape);
         plain = subst (λ (l : List Trb). Plain (flat K) (bared l)) are (trbs-plain K (e .periodic) request lengths);
-        linked = link-is (e .shape .base);
+        linked = link-is (e .shape .base) (chained begunWith kept);
       } in
       let inv = begin-keeps some-place m (k .inv) td may in
       let num = begin-numbered some-place m (k .inv) td still (bared (w .trbs)) (k .numbered) in
       let joined : bared (w .trbs) ++ bare t ∷ bared ts ≡ bared (w .trbs ++ trbs) =
       sym (bared-append (w .trbs) trbs ∙ ap (λ (l : List Trb). bared (w .trbs) ++ bared l) are) in
       let same : begin m td ≡ modelIn K (withTrbs w (stateOf begunWith (w .dock .ring) (w .dock .finished) records packets) r trbs) before
-      (starts td (deferred (request .what))) =
-      ap₂ (λ (a : List (model.Entry (flat K))) (o : ℕ). model.booked m (starts td (deferred (request .what))) a before o)
+      (starts td (deferred kept)) =
+      ap₂ (λ (a : List (model.Entry (flat K))) (o : ℕ). model.booked m (starts td (deferred kept)) a before o)
       (num .by-number ∙ ap (model.layout (flat K) (pos K 0)) joined) (omega arith) in
       let all = all-stored w k (s .resting) in
       let here : withFirst (w .first) r total r ≡ total = (let q : eqb r r ≡ true = eq-eqb r r refl in rw q refl) in
@@ -289,16 +285,15 @@ module _ (w : World) (request : Request) (lengths : List ℕ) (h : Sound (w .doc
         shape = k .shape;
         link-slot = k .link-slot;
         before = before;
-        work = starts td (deferred (request .what));
+        work = starts td (deferred kept);
         inv = subst (λ (x : model.State (flat K)). Inv x) same inv;
         numbered = subst (λ (x : model.State (flat K)). Numbered x (bared (w .trbs ++ trbs))) same (rw joined at num);
         under =
-            under-way K begunWith records packets (withFirst (w .first) r total r) before
-            t ts refl refl (to-store ∙ ap bared are) (request .what) (ap (λ (x : Record). x .kind) written) refl
+            under-way K begunWith records packets (withFirst (w .first) r total r) before t ts refl refl (to-store ∙ ap bared are) refl
             (length-layout (flat K) (pos K 0) (bared (w .trbs)) ∙ bared-length (w .trbs) ∙ sym here);
         begun = λ b. record { last = last; first-at = ap (λ (n : ℕ). (pos K n) .place) here ∙ producer-at };
         stored = k .stored;
-        split = rw (starts-pending td (deferred (request .what))) (omega arith);
+        split = rw (starts-pending td (deferred kept)) (omega arith);
         heard-consumed = k .heard-consumed;
         places = k .places;
         flights = rw longer

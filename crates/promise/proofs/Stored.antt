@@ -14,24 +14,25 @@ use Rattle.base.proofs.Compare.{same-or-not, lt-or-le}
 use Rattle.trb.specs.Layouts.{wordsOf, wordsAt}
 use Rattle.trb.specs.declared.Trb.{Trb}
 use Rattle.trb.specs.declared.Words.{Words}
-use Rattle.ring.specs.Ring.{storeAt, onward, around, linkTrb}
+use Rattle.ring.specs.Ring.{storeAt, onward, around}
 use Rattle.ring.specs.declared.Position.{Position}
 use Rattle.ring.proofs.RuleLaws.{store-same, store-other}
 use Rattle.finished.specs.Finished.{finishedAt, clearPlace}
-use Rattle.records.specs.Records.{control, recordAt}
+use Rattle.records.specs.Records.{recordAt}
 use Rattle.finished.specs.declared.Finished.the-variants.{Event}
 use Rattle.records.specs.declared.Record.{Record}
 use Rattle.finished.proofs.FinishedLaws.{cleared, others-kept}
 use Rattle.dock.specs.declared.Endpoint.{Endpoint}
-use Rattle.dock.specs.Fit.{Next, theLink, theTrb, theSetup, nextOf, isNone}
+use Rattle.dock.specs.Fit.{Next, theLink, theTrb, theFirst, nextOf, isNone}
 use Rattle.dock.specs.State.{idle, moved}
 use Rattle.dock.specs.Store.{stepped, settled, ringStored, finishedStored, firstCycle, storeNo}
-use Rattle.dock.specs.Stores.{trbCount, trbOf, setupTrb}
+use Rattle.dock.specs.Stores.{trbCount, trbOf, deferred, firstTrb, chained, linkFor}
 use Rattle.dock.proofs.NextLaws.{is-next, store-admitted}
 use Rattle.dock.proofs.Reached.{Sound}
 use Rattle.dock.specs.Run.{State, stateOf, stores}
 use Rattle.dock.proofs.RefusalLaws.{store-acts, store-refuses}
-use Rattle.dock.proofs.StepLaws.{step-works, setup-hidden, trb-current}
+use Rattle.dock.proofs.StepLaws.{step-works, first-hidden, trb-current}
+use Rattle.dock.proofs.TdLaws.{first-same, link-kept}
 use Rattle.order.specs.Flat.{flat, setCycle, setSlot}
 use Rattle.order.specs.Model as model
 use Rattle.order.proofs.Index.{pos, period}
@@ -39,7 +40,7 @@ use Rattle.order.proofs.Moves.{Inv, store-keeps, doing-of, pending}
 use Rattle.order.proofs.Numbers.{Numbered, store-numbered}
 use Rattle.promise.specs.Run.{World, withDock, calls, act}
 use Rattle.promise.proofs.Awaited.{next-at}
-use Rattle.promise.proofs.Kept.{positionOf, modelOf, modelIn, upcoming, LinkSlot, linkWords, left, setupAt, Opens, Shows, Hides, Under, rests, opens, shows, hides, Begun, Places, Kept}
+use Rattle.promise.proofs.Kept.{positionOf, modelOf, modelIn, upcoming, LinkSlot, linkWords, left, Opens, Shows, Hides, Under, rests, opens, shows, hides, Begun, Places, Kept}
 use Rattle.promise.proofs.Laid.{bare, bared, bared-length, store-is}
 use Rattle.promise.proofs.Made.{never-event}
 use Rattle.promise.proofs.Upcoming.{upcoming-length, left-count, same-upcoming, goes-on, ends-here}
@@ -189,23 +190,23 @@ module _ (w : World) (h : Sound (w .dock)) (k : Kept w) where
   unfolding ringStored
   off-link off = link-as-was (e .at .place) (trbOf e v packets (e .work .stored)) (firstCycle e v) ring-room off
 
-  off-setup : e .work .place + 1 < e .shape .slots → LinkSlot (k .K) (e .shape .base) (ringStored theSetup e v packets (w .dock .ring))
+  off-first : e .work .place + 1 < e .shape .slots → LinkSlot (k .K) (e .shape .base) (ringStored theFirst e v packets (w .dock .ring))
   unfolding ringStored
-  off-setup low = link-as-was (e .work .place) (setupTrb v) (e .work .cycle) (omega (arith, h .ringLong)) (λ q. omega (arith, k .shape))
+  off-first low = link-as-was (e .work .place) (firstTrb e v packets) (e .work .cycle) (omega (arith, h .ringLong)) (λ q. omega (arith, k .shape))
 
   own-link : e .at .place ≡ k .K → LinkSlot (k .K) (e .shape .base) (ringStored theLink e v packets (w .dock .ring))
   unfolding ringStored
   own-link at-link t = (
+    chained e v,
     e .at .cycle,
-    subst (λ (i : ℕ). wordsAt (storeAt (w .dock .ring) (e .at .place) (linkTrb (e .shape .base) false) (e .at .cycle)) i ≡ wordsOf
-        (linkTrb (e .shape .base) false) (e .at .cycle)) at-link
-        (store-same (w .dock .ring) (e .at .place) (linkTrb (e .shape .base) false) (e .at .cycle) ring-room),
+    subst (λ (i : ℕ). wordsAt (storeAt (w .dock .ring) (e .at .place) (linkFor e v) (e .at .cycle)) i ≡ wordsOf (linkFor e v) (e .at .cycle)) at-link
+        (store-same (w .dock .ring) (e .at .place) (linkFor e v) (e .at .cycle) ring-room),
   )
 
   -- ---- the stores of the model
 
   abbrev link : Words
-  link = linkWords e
+  link = linkWords e v
 
   link-same : (rest : List Words) (again : Option (model.Entry (flat (k .K)))) → k .work ≡ model.busy rest link again → e .at .place ≡ k .K
       → model.store m ≡ then (ringStored theLink e v packets (w .dock .ring)) (around (e .at))
@@ -215,9 +216,9 @@ module _ (w : World) (h : Sound (w .dock)) (k : Kept w) where
       store-by (model.busy rest link again) true is (eq-eqb _ _ at-link)
       ∙ put-is (k .K) (setCycle (e .at .cycle) link) (model.around (positionOf (e .at)))
       (model.leaves (model.around (positionOf (e .at))) rest link again)
-      (storeAt (w .dock .ring) (e .at .place) (linkTrb (e .shape .base) false) (e .at .cycle)) (around (e .at))
+      (storeAt (w .dock .ring) (e .at .place) (linkFor e v) (e .at .cycle)) (around (e .at))
       (ap (λ (i : ℕ). setSlot (w .dock .ring) i (setCycle (e .at .cycle) link)) (sym at-link) ∙ store-is
-      (w .dock .ring) (e .at .place) (linkTrb (e .shape .base) false) (e .at .cycle) ring-room)
+      (w .dock .ring) (e .at .place) (linkFor e v) (e .at .cycle) ring-room)
       refl
 
   on-one : model.advance (positionOf (e .at)) ≡ positionOf (onward (e .at))
@@ -263,7 +264,7 @@ module _ (w : World) (h : Sound (w .dock)) (k : Kept w) where
       ap bared (same-upcoming v packets (count - now) (stepped theLink e v packets) e
       (record { stored = refl; address = refl; number = refl; packet = refl; burst = refl }))
 
-  -- What is left, where something is, or the setup is to be stored again, is what was left.
+  -- What is left, where something is, or the first TRB is to be stored again, is what was left.
   leaves-some : (p : model.Position) (l : List Words) (again : Option (model.Entry (flat (k .K)))) → 0 < length l → model.leaves {S =
       flat (k .K)} p l link again ≡ model.busy l link again
   leaves-some p [] again more = absurd (omega arith)
@@ -273,6 +274,33 @@ module _ (w : World) (h : Sound (w .dock)) (k : Kept w) where
       flat (k .K)} p l link (some a) ≡ model.busy l link (some a)
   leaves-again p [] a = refl
   leaves-again p (x ∷ xs) a = refl
+
+  -- The link and the first TRB, which is to be stored again, are the same behind a store.
+  abbrev busyWith : List Words → Trb → Option (model.Entry (flat (k .K))) → model.Work (flat (k .K))
+  busyWith l t again = model.busy l (bare t) again
+
+  same-link : (n : Next) (l : List Words) → busyWith l (linkFor e v) none ≡ busyWith l (linkFor (stepped n e v packets) v) none
+  same-link n l = ap (λ (t : Trb). busyWith l t none) (sym (link-kept n e v packets))
+
+  abbrev againAt : ℕ → Bool → Trb → model.Entry (flat (k .K))
+  againAt place cycle t = model.placed (flat (k .K)) (record { place = place; cycle = cycle }) (bare t)
+
+  abbrev againOf : Endpoint → model.Entry (flat (k .K))
+  againOf x = againAt (x .work .place) (x .work .cycle) (firstTrb x v packets)
+
+  abbrev again : model.Entry (flat (k .K))
+  again = againOf e
+
+  again-kept : (n : Next) → deferred v ≡ true → again ≡ againOf (stepped n e v packets)
+  again-kept n late =
+      let s = step-works n e v packets in
+      ap (againAt (e .work .place) (e .work .cycle)) (first-same e (stepped n e v packets) v packets packets late)
+      ∙ ap₂ (λ (place : ℕ) (cycle : Bool). againAt place cycle (firstTrb (stepped n e v packets) v packets)) (sym (s .place)) (sym (s .cycle))
+
+  same-again : (n : Next) → deferred v ≡ true → (l : List Words)
+      → busyWith l (linkFor e v) (some again) ≡ busyWith l (linkFor (stepped n e v packets) v) (some (againOf (stepped n e v packets)))
+  same-again n late l =
+      ap₂ (λ (t : Trb) (a : model.Entry (flat (k .K))). busyWith l t (some a)) (sym (link-kept n e v packets)) (again-kept n late)
 
   -- Where nothing is, the link is due at L-1, and else nothing is.
   leaves-none : (p : model.Position) → (p .place ≡ k .K → ⊥) → model.leaves {S = flat (k .K)} p [] link none ≡ model.idle
@@ -290,11 +318,11 @@ module _ (w : World) (h : Sound (w .dock)) (k : Kept w) where
   cleared-places off =
       places-cleared (k .K) some-place (w .dock .finished) (k .stored) (w .heard) (e .at .place) (next-at w k off) place-room (k .places)
 
-  -- ---- a request that is not a control request
+  -- ---- a TD that is not deferred
 
   module _ (u : Shows (k .K) e (w .dock .records) packets (w .first (e .work .number)) (k .before) (k .work)) where
-    other : (v .kind ≡ control) × (now ≡ count) → ⊥
-    other q = u .kind (q .0)
+    other : (deferred v ≡ true) × (now ≡ count) → ⊥
+    other q = false≢true (sym (u .early) ∙ q .0)
 
     -- The link, with TRBs still to come,
     shows-link-more : e .at .place ≡ k .K → now < count → Kept (withDock w (after theLink))
@@ -306,7 +334,12 @@ module _ (w : World) (h : Sound (w .dock)) (k : Kept w) where
         (next-kept (stepped theLink e v packets) _ (w .dock .finished) (model.busy rest link none) (k .stored) refl refl (own-link at-link)
         (link-same rest none (u .is) at-link ∙ ap (then _ (around (e .at)))
         (leaves-some (model.around (positionOf (e .at))) rest none (omega (arith, left-count (k .K) e (w .dock .records) packets))))
-        (shows (record { taken = refl; kind = u .kind; counted = u .counted; is = ap (λ (l : List Words). model.busy l link none) (sym link-left) }))
+        (shows (record {
+          taken = refl;
+          early = u .early;
+          counted = u .counted;
+          is = ap (λ (l : List Words). model.busy l link none) (sym link-left) ∙ same-link theLink _;
+        }))
         (λ b. keep-begun theLink (u .taken))
         (stored-is (model.busy rest link none) (u .is)) (k .places))
 
@@ -329,7 +362,7 @@ module _ (w : World) (h : Sound (w .dock)) (k : Kept w) where
         (stored-is (model.busy [] link none) is) (k .places))
 
     current : firstCycle e v ≡ e .at .cycle
-    current = trb-current e v (λ q. u .kind (q .0))
+    current = trb-current e v (λ q. false≢true (sym (u .early) ∙ q .0))
 
     next-work : now < count → k .work ≡ model.busy (bare (trbOf e v packets now) ∷ behind) link none
     next-work more = u .is ∙ ap (λ (l : List Words). model.busy l link none) (next-left more)
@@ -344,7 +377,7 @@ module _ (w : World) (h : Sound (w .dock)) (k : Kept w) where
         (next-kept (stepped theTrb e v packets) _ _ (model.busy behind link none) (suc (k .stored)) refl refl (off-link off)
         (trb-same behind none is off current ∙ ap (then _ (onward (e .at)))
         (leaves-some (model.advance (positionOf (e .at))) behind none (omega (arith, behind-count))))
-        (shows (record { taken = refl; kind = u .kind; counted = omega arith; is = refl }))
+        (shows (record { taken = refl; early = u .early; counted = omega arith; is = same-link theTrb behind }))
         (λ b. keep-begun theTrb (u .taken))
         (omega (arith, stored-is _ is)) (cleared-places off))
 
@@ -366,7 +399,7 @@ module _ (w : World) (h : Sound (w .dock)) (k : Kept w) where
         (ap (λ (l : List Words). model.leaves (model.advance (positionOf (e .at))) l link none) none-more
         ∙ leaves-link (model.advance (positionOf (e .at))) due
         ∙ ap (λ (l : List Words). model.busy l link none) (sym none-more)))
-        (shows (record { taken = refl; kind = u .kind; counted = omega arith; is = refl }))
+        (shows (record { taken = refl; early = u .early; counted = omega arith; is = same-link theTrb behind }))
         (λ b. keep-begun theTrb (u .taken))
         (omega (arith, stored-is _ is)) (cleared-places off))
 
@@ -375,7 +408,7 @@ module _ (w : World) (h : Sound (w .dock)) (k : Kept w) where
     unfolding stepped
     shows-trb-last off all not-due =
         let over =
-        is-over theTrb (ends-here (stepped theTrb e v packets) v (λ q. not-due (omega (arith, k .shape))) (omega arith) (λ q. u .kind (q .0))) in
+        is-over theTrb (ends-here (stepped theTrb e v packets) v (λ q. not-due (omega (arith, k .shape))) (omega arith) (λ q. false≢true (sym (u .early) ∙ q .0))) in
         let is = next-work (omega arith) in
         let none-more = no-more all in
         rw over
@@ -388,14 +421,11 @@ module _ (w : World) (h : Sound (w .dock)) (k : Kept w) where
         (λ b. absurd (false≢true b))
         (omega (arith, stored-is _ is, behind-count)) (cleared-places off))
 
-  -- ---- a control request
+  -- ---- a deferred TD
 
   module _ (u : Hides (k .K) e (w .dock .records) packets (w .first (e .work .number)) (k .before) (k .work)) where
-    abbrev again : model.Entry (flat (k .K))
-    again = model.placed (flat (k .K)) (setupAt (k .K) e (w .dock .records) packets) (bare (setupTrb v))
-
-    to-come : (now < count) ⊎ ((v .kind ≡ control) × (now ≡ count))
-    to-come = ⊎-elim (λ (l : now < count). inl l) (λ (l : count ≤ now). inr (u .kind, omega (arith, u .counted))) (lt-or-le now count)
+    to-come : (now < count) ⊎ ((deferred v ≡ true) × (now ≡ count))
+    to-come = ⊎-elim (λ (l : now < count). inl l) (λ (l : count ≤ now). inr (u .late, omega (arith, u .counted))) (lt-or-le now count)
 
     -- The link;
     hides-link : e .at .place ≡ k .K → Kept (withDock w (after theLink))
@@ -408,49 +438,49 @@ module _ (w : World) (h : Sound (w .dock)) (k : Kept w) where
         (link-same rest (some again) (u .is) at-link ∙ ap (then _ (around (e .at))) (leaves-again (model.around (positionOf (e .at))) rest again))
         (hides (record {
           taken = refl;
-          kind = u .kind;
+          late = u .late;
           some-stored = u .some-stored;
           counted = u .counted;
           marked = u .marked;
-          is = ap (λ (l : List Words). model.busy l link (some again)) (sym link-left);
+          is = ap (λ (l : List Words). model.busy l link (some again)) (sym link-left) ∙ same-again theLink (u .late) _;
         }))
         (λ b. keep-begun theLink (u .taken))
         (stored-is (model.busy rest link (some again)) (u .is)) (k .places))
 
-    -- a TRB behind the setup;
+    -- a TRB behind the first;
     hides-trb : (e .at .place ≡ k .K → ⊥) → now < count → Kept (withDock w (after theTrb))
     unfolding stepped
     hides-trb off more =
         let on = keeps-on theTrb (goes-on (stepped theTrb e v packets) v
-        (inr (⊎-elim (λ (l : now + 1 < count). inl l) (λ (l : count ≤ now + 1). inr (u .kind, omega arith)) (lt-or-le (now + 1) count)))) in
+        (inr (⊎-elim (λ (l : now + 1 < count). inl l) (λ (l : count ≤ now + 1). inr (u .late, omega arith)) (lt-or-le (now + 1) count)))) in
         let is : k .work ≡ model.busy (bare (trbOf e v packets now) ∷ behind) link (some again) =
         u .is ∙ ap (λ (l : List Words). model.busy l link (some again)) (next-left more) in
         rw on
         (next-kept (stepped theTrb e v packets) _ _ (model.busy behind link (some again)) (suc (k .stored)) refl refl (off-link off)
         (trb-same behind (some again) is off (trb-current e v (λ q. omega (arith, q .1, u .some-stored)))
         ∙ ap (then _ (onward (e .at))) (leaves-again (model.advance (positionOf (e .at))) behind again))
-        (hides (record { taken = refl; kind = u .kind; some-stored = omega arith; counted = omega arith; marked = u .marked; is = refl }))
+        (hides (record { taken = refl; late = u .late; some-stored = omega arith; counted = omega arith; marked = u .marked; is = same-again theTrb (u .late) behind }))
         (λ b. keep-begun theTrb (u .taken))
         (omega (arith, stored-is _ is)) (cleared-places off))
 
-    -- and the setup again: nothing is under way then.
-    hides-setup : e .work .place + 1 < e .shape .slots → (e .at .place ≡ k .K → ⊥) → now ≡ count → Kept (withDock w (after theSetup))
+    -- and the first TRB again: nothing is under way then.
+    hides-first : e .work .place + 1 < e .shape .slots → (e .at .place ≡ k .K → ⊥) → now ≡ count → Kept (withDock w (after theFirst))
     unfolding stepped finishedStored ringStored
-    hides-setup low off all =
+    hides-first low off all =
         let over =
-        is-over theSetup (ends-here (stepped theSetup e v packets) v (λ q. off (omega (arith, k .shape))) (omega arith) (λ q. omega (arith, q .1))) in
+        is-over theFirst (ends-here (stepped theFirst e v packets) v (λ q. off (omega (arith, k .shape))) (omega arith) (λ q. omega (arith, q .1))) in
         let is : k .work ≡ model.busy [] link (some again) = u .is ∙ ap (λ (l : List Words). model.busy l link (some again)) (none-left all) in
         rw over
-        (next-kept _ _ (w .dock .finished) model.idle (k .stored) refl refl (off-setup low)
+        (next-kept _ _ (w .dock .finished) model.idle (k .stored) refl refl (off-first low)
         (store-by (model.busy [] link (some again)) false is (ne-eqb _ _ off)
-        ∙ put-is (e .work .place) (setCycle (e .work .cycle) (bare (setupTrb v))) (positionOf (e .at)) model.idle
-        (storeAt (w .dock .ring) (e .work .place) (setupTrb v) (e .work .cycle)) (e .at)
-        (store-is (w .dock .ring) (e .work .place) (setupTrb v) (e .work .cycle) (omega (arith, h .ringLong))) refl)
+        ∙ put-is (e .work .place) (setCycle (e .work .cycle) (bare (firstTrb e v packets))) (positionOf (e .at)) model.idle
+        (storeAt (w .dock .ring) (e .work .place) (firstTrb e v packets) (e .work .cycle)) (e .at)
+        (store-is (w .dock .ring) (e .work .place) (firstTrb e v packets) (e .work .cycle) (omega (arith, h .ringLong))) refl)
         (rests (record { free = refl; is = refl }))
         (λ b. absurd (false≢true b))
         (stored-is (model.busy [] link (some again)) is) (k .places))
 
-  -- The setup's first store, with the opposite cycle.
+  -- The first TRB's first store, with the opposite cycle.
   module _ (u : Opens (k .K) e (w .dock .records) packets (w .first (e .work .number)) (k .before) (k .work)) where
     opens-off : e .at .place ≡ k .K → ⊥
     opens-off = doing-of m (k .inv) (u .is) .off-link
@@ -458,63 +488,59 @@ module _ (w : World) (h : Sound (w .dock)) (k : Kept w) where
     some-left : now < count
     some-left = omega (arith, left-count (k .K) e (w .dock .records) packets, ap length (u .left-are))
 
-    -- The first of the TRBs of a control request is its setup.
-    first-is : trbOf e v packets now ≡ setupTrb v
-    unfolding trbOf
-    first-is = rw (eq-eqb (v .kind) control (u .kind), eq-eqb now 0 (u .none-stored))
+    -- It is the TRB that is stored again.
+    first-is : trbOf e v packets now ≡ firstTrb e v packets
+    first-is = ap (trbOf e v packets) (u .none-stored)
 
-    both-are : (u .setup ∷ u .others) ≡ bare (trbOf e v packets now) ∷ behind
+    both-are : (u .head ∷ u .others) ≡ bare (trbOf e v packets now) ∷ behind
     both-are = sym (u .left-are) ∙ next-left some-left
 
-    setup-is : u .setup ≡ bare (trbOf e v packets now)
-    setup-is = let q = both-are in cc
+    head-is : u .head ≡ bare (trbOf e v packets now)
+    head-is = let q = both-are in cc
 
     others-are : u .others ≡ behind
     others-are = let q = both-are in cc
 
-    abbrev setup-again : model.Entry (flat (k .K))
-    setup-again = model.placed (flat (k .K)) (setupAt (k .K) e (w .dock .records) packets) (bare (setupTrb v))
-
-    opens-same : model.store m ≡ then (ringStored theTrb e v packets (w .dock .ring)) (onward (e .at)) (model.busy behind link (some setup-again))
+    opens-same : model.store m ≡ then (ringStored theTrb e v packets (w .dock .ring)) (onward (e .at)) (model.busy behind link (some again))
     unfolding ringStored
     opens-same =
         let p = positionOf (e .at) in
-        store-by (model.opening (u .setup) (u .others) link) (eqb (e .at .place) (k .K)) (u .is) refl
-        ∙ put-is (e .at .place) (setCycle (not (e .at .cycle)) (u .setup)) (model.advance p)
-        (model.busy (u .others) link (some (model.placed (flat (k .K)) p (u .setup))))
+        store-by (model.opening (u .head) (u .others) link) (eqb (e .at .place) (k .K)) (u .is) refl
+        ∙ put-is (e .at .place) (setCycle (not (e .at .cycle)) (u .head)) (model.advance p)
+        (model.busy (u .others) link (some (model.placed (flat (k .K)) p (u .head))))
         (storeAt (w .dock .ring) (e .at .place) (trbOf e v packets now) (firstCycle e v)) (onward (e .at))
-        (ap (λ (x : Words). setSlot (w .dock .ring) (e .at .place) (setCycle (not (e .at .cycle)) x)) setup-is
+        (ap (λ (x : Words). setSlot (w .dock .ring) (e .at .place) (setCycle (not (e .at .cycle)) x)) head-is
         ∙ store-is (w .dock .ring) (e .at .place) (trbOf e v packets now) (not (e .at .cycle)) ring-room
-        ∙ ap (storeAt (w .dock .ring) (e .at .place) (trbOf e v packets now)) (sym (setup-hidden e v (u .kind) (u .none-stored))))
+        ∙ ap (storeAt (w .dock .ring) (e .at .place) (trbOf e v packets now)) (sym (first-hidden e v (u .late) (u .none-stored))))
         on-one
         ∙ ap (then (storeAt (w .dock .ring) (e .at .place) (trbOf e v packets now) (firstCycle e v)) (onward (e .at)))
         (ap₂ (λ (l : List Words) (x : model.Entry (flat (k .K))). model.busy l link (some x)) others-are
-        (ap₂ (λ (q : model.Position) (x : Words). model.placed (flat (k .K)) q x) (sym (u .at-setup)) (setup-is ∙ ap bare first-is)))
+        (ap₂ (λ (q : model.Position) (x : Words). model.placed (flat (k .K)) q x) (sym (u .at-first)) (head-is ∙ ap bare first-is)))
 
     opens-trb : Kept (withDock w (after theTrb))
     unfolding stepped
     opens-trb =
         let on = keeps-on theTrb (goes-on (stepped theTrb e v packets) v
-        (inr (⊎-elim (λ (l : now + 1 < count). inl l) (λ (l : count ≤ now + 1). inr (u .kind, omega (arith, some-left)))
+        (inr (⊎-elim (λ (l : now + 1 < count). inl l) (λ (l : count ≤ now + 1). inr (u .late, omega (arith, some-left)))
         (lt-or-le (now + 1) count)))) in
         rw on
-        (next-kept (stepped theTrb e v packets) _ _ (model.busy behind link (some setup-again))
+        (next-kept (stepped theTrb e v packets) _ _ (model.busy behind link (some again))
         (suc (k .stored)) refl refl (off-link opens-off) opens-same
         (hides (record {
           taken = refl;
-          kind = u .kind;
+          late = u .late;
           some-stored = omega arith;
           counted = omega
               (arith, some-left);
           marked = u .marked;
-          is = refl;
+          is = same-again theTrb (u .late) behind;
         }))
         (λ b. keep-begun theTrb (u .taken))
         (omega (arith, stored-is _ (u .is), ap length others-are)) (cleared-places opens-off))
 
   -- ---- which store is next
 
-  -- With nothing left that is not a control request's setup, the link is due.
+  -- With nothing left of a TD that is not deferred, the link is due.
   due : (u : Shows (k .K) e (w .dock .records) packets (w .first (e .work .number)) (k .before) (k .work)) → (e .at .place ≡ k .K → ⊥) → now < count
   due u off =
       ⊎-elim
@@ -562,7 +588,7 @@ module _ (w : World) (h : Sound (w .dock)) (k : Kept w) where
       (λ (l : now < count). by-next theTrb (is-next e v theTrb (not-last off, l)) (hides-trb u off l))
       (λ (l : count ≤ now).
       let all : now ≡ count = omega (arith, u .counted) in
-      by-next theSetup (is-next e v theSetup (not-last off, u .kind, all)) (hides-setup u low off all))
+      by-next theFirst (is-next e v theFirst (not-last off, u .late, all)) (hides-first u low off all))
       (lt-or-le now count))
       (same-or-not (e .at .place) (k .K))
 

@@ -8,13 +8,13 @@ use mathlib.Core.Path.{_≡_, refl, ap, ap₂, _∙_}
 use lib.ListN.{length}
 use Rattle.base.proofs.Compare.{same-or-not}
 use Rattle.trb.specs.declared.Trb.{Trb}
-use Rattle.records.specs.Records.{control, recordAt}
+use Rattle.records.specs.Records.{recordAt}
 use Rattle.records.specs.declared.Record.{Record}
 use Rattle.dock.specs.declared.Endpoint.{Endpoint}
-use Rattle.dock.specs.Fit.{theLink, theTrb, theSetup, nextOf, isNone}
+use Rattle.dock.specs.Fit.{theLink, theTrb, theFirst, nextOf, isNone}
 use Rattle.dock.specs.Fit as fit
 use Rattle.dock.specs.Store.{stepped}
-use Rattle.dock.specs.Stores.{trbCount, trbOf}
+use Rattle.dock.specs.Stores.{trbCount, trbOf, deferred}
 use Rattle.dock.proofs.NextLaws.{is-next}
 use Rattle.promise.proofs.Kept.{upcoming, left}
 use Rattle.promise.proofs.Laid.{bared-length}
@@ -62,9 +62,9 @@ module _ (v : Record) (packets : List ℕ) where
 
 -- ---- whether a store follows
 
--- At L-1 the link does; else a TRB, where one is left; else, for control, the setup.
+-- At L-1 the link does; else a TRB, where one is left; else, for a deferred TD, the first TRB again.
 pub goes-on : (e : Endpoint) (v : Record)
-    → (e .at .place + 1 ≡ e .shape .slots) ⊎ ((e .work .stored < trbCount v) ⊎ ((v .kind ≡ control) × (e .work .stored ≡ trbCount v)))
+    → (e .at .place + 1 ≡ e .shape .slots) ⊎ ((e .work .stored < trbCount v) ⊎ ((deferred v ≡ true) × (e .work .stored ≡ trbCount v)))
     → isNone (nextOf e v) ≡ false
 goes-on e v more =
     ⊎-elim
@@ -75,13 +75,13 @@ goes-on e v more =
     (λ m.
     ⊎-elim
     (λ (l : e .work .stored < trbCount v). ap isNone (is-next e v theTrb (d, l)))
-    (λ (c : (v .kind ≡ control) × (e .work .stored ≡ trbCount v)). ap isNone (is-next e v theSetup (d, c .0, c .1)))
+    (λ (c : (deferred v ≡ true) × (e .work .stored ≡ trbCount v)). ap isNone (is-next e v theFirst (d, c .0, c .1)))
     m)
     more)
     (same-or-not (e .at .place + 1) (e .shape .slots))
 
 -- Else none does.
 pub ends-here : (e : Endpoint) (v : Record) → (e .at .place + 1 ≡ e .shape .slots → ⊥) → trbCount v ≤ e .work .stored
-    → ((v .kind ≡ control) × (e .work .stored ≡ trbCount v) → ⊥)
+    → ((deferred v ≡ true) × (e .work .stored ≡ trbCount v) → ⊥)
     → isNone (nextOf e v) ≡ true
 ends-here e v off all other = ap isNone (is-next e v fit.none (off, all, other))

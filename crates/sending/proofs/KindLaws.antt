@@ -3,19 +3,20 @@ use Prim.Native.Nat.{ℕ, _-_, _*_}
 use borrow.Author.Tests.{eq-eqb, ne-eqb}
 use lib.ListN.{length}
 use lib.Seq.{paste}
+use mathlib.Core.Bool.{Bool, true, false}
 use mathlib.Core.List.{List}
 use mathlib.Core.Path.{_≡_, ap}
 use Rattle.trb.specs.declared.Trb.{Trb}
 use Rattle.ring.specs.declared.Position.{Position}
 use Rattle.packets.specs.Packets.{packetCount}
-use Rattle.records.specs.Records.{control, isoch}
+use Rattle.records.specs.Records.{isoch}
 use Rattle.records.specs.declared.Record.{Record}
 use Rattle.dock.specs.declared.Endpoint.{Endpoint}
 use Rattle.dock.specs.declared.StoredAll.{StoredAll}
 use Rattle.dock.specs.Start.{atLeastOne}
-use Rattle.dock.specs.Stores.{normalTrb}
+use Rattle.dock.specs.Stores.{normalTrb, deferred, chained}
 use Rattle.isoch.specs.declared.Pen.{Pen}
-use Rattle.striding.specs.Controls.{controlPut}
+use Rattle.striding.specs.Deferred.{deferredPut}
 use Rattle.isoch.specs.Packed.{allPut}
 use Rattle.sending.specs.Sent.{ended, penOf, sentIsoch, plainPut, sentBy}
 use Rattle.striding.specs.Stride.{putTrb}
@@ -24,14 +25,15 @@ abbrev Put : Type 0
 Put = Position × List ℕ × List ℕ
 
 module _ (e : Endpoint) (v : Record) (ring finished : List ℕ) where
-  pub plain-control : v .kind ≡ control → controlPut (e .shape) (e .at) v ring finished ≡ plainPut e v ring finished
+  pub plain-deferred : {chain : Bool} → chain ≡ chained e v → deferred v ≡ true
+      → deferredPut (e .shape) chain (e .at) v ring finished ≡ plainPut e v ring finished
   unfolding plainPut
-  plain-control kind = rw (eq-eqb (v .kind) control kind)
+  plain-deferred link late = rw (link, late)
 
-  pub plain-other : {trb : Trb} → (v .kind ≡ control → ⊥) → trb ≡ normalTrb v
-      → putTrb (e .shape) (e .at) trb (e .at .cycle) ring finished ≡ plainPut e v ring finished
+  pub plain-other : {chain : Bool} {trb : Trb} → chain ≡ chained e v → deferred v ≡ false → trb ≡ normalTrb v
+      → putTrb (e .shape) chain (e .at) trb (e .at .cycle) ring finished ≡ plainPut e v ring finished
   unfolding plainPut
-  plain-other kind is = rw (ne-eqb (v .kind) control kind, is)
+  plain-other link early is = rw (link, early, is)
 
   module _ (packets lengths : List ℕ) where
     pub sent-isoch : v .kind ≡ isoch → sentIsoch e v ring finished packets (atLeastOne lengths) ≡ sentBy e v ring finished packets lengths

@@ -1,17 +1,17 @@
 -- What `send` leaves is what an admitted submission's stores leave, one after the other. Assumes nothing.
 use Prim.Native.Nat.{ℕ, zero, suc, _+_, _-_, _<_}
-use mathlib.Core.Bool.{Bool, false, not}
+use mathlib.Core.Bool.{Bool, true, false, not}
 use mathlib.Core.List.{List, [], _∷_}
 use mathlib.Core.Logic.{⊎-elim}
 use mathlib.Core.Path.{_≡_, refl, sym, ap, subst, _∙_}
 use native.Mathlib.Omega.{arith}
-use borrow.Author.Tests.{ne-eqb, lt-ltb}
+use borrow.Author.Tests.{eq-eqb, ne-eqb, lt-ltb}
 use lib.Dec.{eqb}
 use lib.ListN.{length, getD}
 use Rattle.base.proofs.Compare.{same-or-not}
 use Rattle.ring.specs.declared.Position.{Position}
 use Rattle.packets.specs.Packets.{packetAt}
-use Rattle.records.specs.Records.{control, isoch, recordAt}
+use Rattle.records.specs.Records.{isoch, recordAt}
 use Rattle.packets.specs.declared.Packet.{Packet}
 use Rattle.records.specs.declared.Record.{Record}
 use Rattle.dock.specs.declared.Endpoint.{Endpoint}
@@ -27,14 +27,16 @@ use Rattle.dock.specs.Requests.{required, withWhat, recordFor}
 use Rattle.dock.specs.Start.{startNo, tooLong, idTaken, recordTaken, atLeastOne, startedEndpoint, startedRecords, writePackets}
 use Rattle.dock.specs.State.{moved}
 use Rattle.dock.specs.Store.{store, worked}
-use Rattle.dock.specs.Stores.{trbCount, trbOf, setupTrb}
+use Rattle.dock.specs.Stores.{trbCount, trbOf, deferred, chained}
 use Rattle.dock.specs.Submit.{afterStore, finish, mostStores}
 use Rattle.dock.proofs.AskedLaws.{packet-written}
 use Rattle.dock.proofs.FinishLaws.{start-finishes}
 use Rattle.dock.proofs.StartLaws.{start-admitted, record-below, record-written}
 use Rattle.dock.proofs.StartedLaws.{count-is, started-count, started-next, started-storing, required-some}
+use Rattle.dock.proofs.TdLaws.{by-deferred, chain-worked, isoch-early, isoch-unchained}
+use Rattle.trbs.specs.Trbs.{firstOf}
 use Rattle.isoch.specs.declared.Pen.{Pen}
-use Rattle.striding.specs.Controls.{stagesPut, controlPut}
+use Rattle.striding.specs.Deferred.{stagesPut, deferredPut}
 use Rattle.isoch.specs.Packed.{packetPut, packetsPut}
 use Rattle.sending.specs.Sent.{penOf, sentIsoch, plainPut, sentBy}
 use Rattle.striding.specs.Stride.{putTrb, strides, closed}
@@ -89,20 +91,32 @@ module _ (e : Endpoint) (v : Record) (asked sizes : List ℕ) (kind : v .kind �
   packets-stride zero k pen ring finished left = ap (λ (j : ℕ). behind j (pen, ring, finished)) (omega arith)
   packets-stride (suc n) k pen ring finished left =
       let d = packetPut (e .shape) (e .periodic) (v .incoming) (getD sizes k 0) (not (eqb (k + 1) (length sizes))) pen ring finished in
-      simp (kind, count, asks k (omega arith))
+      simp (kind, count, asks k (omega arith), isoch-early v kind, isoch-unchained (penned e k pen) v kind)
       (packets-stride n (k + 1) (d .0) (d .1) (d .2) (omega arith)
       ∙ ap (λ (j : ℕ). behind j (packetsPut n (k + 1) (e .shape) (e .periodic) (v .incoming) sizes (d .0) (d .1) (d .2))) (omega arith))
 
--- ---- the three stages of a control request
+-- ---- the stages of a control request, whose TD is deferred
 
 module _ (e : Endpoint) (v : Record) (asked ring finished : List ℕ) where
   abbrev staged : ℕ → Position × List ℕ × List ℕ → Endpoint × List ℕ × List ℕ
   staged k s = (moved e (s .0) (e .periodic .frame) (worked (e .work) k (e .work .address)), s .1, s .2)
 
-  three-strides : e .work .stored ≡ 0 → v .kind ≡ control → (v .length ≡ 0 → ⊥)
-      → strides 3 e v asked ring finished ≡ staged 3 (stagesPut (e .shape) v (putTrb (e .shape) (e .at) (setupTrb v) (not (e .at .cycle)) ring finished))
-  unfolding strides trbOf stagesPut
-  three-strides none kind some = simp (none, kind, ne-eqb (v .length) 0 some, lt-ltb 0 (v .length) (omega arith))
+  abbrev hiddenFirst : Position × List ℕ × List ℕ
+  hiddenFirst = putTrb (e .shape) (chained e v) (e .at) (firstOf v) (not (e .at .cycle)) ring finished
+
+  abbrev Staged : ℕ → Type 0
+  Staged n = strides n e v asked ring finished ≡ staged n (stagesPut (e .shape) (chained e v) v hiddenFirst)
+
+  -- Without data they are two, setup and status,
+  two-strides : e .work .stored ≡ 0 → deferred v ≡ true → v .length ≡ 0 → Staged 2
+  unfolding strides trbOf stagesPut firstOf
+  two-strides none late nothing = simp (none, late, by-deferred v .so late, nothing, chain-worked e v)
+
+  -- with data three.
+  three-strides : e .work .stored ≡ 0 → deferred v ≡ true → (v .length ≡ 0 → ⊥) → Staged 3
+  unfolding strides trbOf stagesPut firstOf
+  three-strides none late some =
+      simp (none, late, by-deferred v .so late, ne-eqb (v .length) 0 some, lt-ltb 0 (v .length) (omega arith), chain-worked e v)
 
 -- ---- by the kind
 
@@ -125,36 +139,39 @@ module _ (e : Endpoint) (records packets : List ℕ) (lengths ring finished : Li
 
   abbrev Alike : Request → Type 0
   Alike request =
-      joinedBy request (closed (kept request) (strides (required request (length lengths)) (begunWith request) (kept request) (asked request) ring finished))
+      joinedBy request (closed (kept request) (asked request) (strides (required request (length lengths)) (begunWith request) (kept request) (asked request) ring finished))
       ≡ sentBy (begunWith request) (kept request) ring finished packets lengths
 
   bulk-alike : (incoming : Bool) (given : Request) → Alike (withWhat given (Bulk incoming))
-  unfolding startedEndpoint writePackets strides closed trbOf sentBy plainPut
+  unfolding startedEndpoint writePackets strides closed trbOf deferred sentBy plainPut
   bulk-alike incoming given = refl
 
   interrupt-alike : (incoming : Bool) (given : Request) → Alike (withWhat given (Interrupt incoming))
-  unfolding startedEndpoint writePackets strides closed trbOf sentBy plainPut
+  unfolding startedEndpoint writePackets strides closed trbOf deferred sentBy plainPut
   interrupt-alike incoming given = refl
 
-  -- A control request without data is setup and status, one with data has three stages.
+  -- A control request's TD is deferred; without data it is setup and status, with data it has three stages.
   module _ (type request value index : ℕ) (given : Request) where
-    abbrev setup : Request
-    setup = withWhat given (Control type request value index)
+    abbrev c : Request
+    c = withWhat given (Control type request value index)
 
-    two-alike : given .length ≡ 0 → Alike setup
-    unfolding startedEndpoint writePackets strides closed trbOf sentBy plainPut controlPut stagesPut
-    two-alike none = rw none refl
+    late : deferred (kept c) ≡ true
+    unfolding deferred
+    late = refl
 
-    three-alike : (given .length ≡ 0 → ⊥) → Alike setup
-    unfolding startedEndpoint writePackets closed sentBy plainPut controlPut
-    three-alike some =
-        ap (λ (n : ℕ). joinedBy setup (closed (kept setup) (strides n (begunWith setup) (kept setup) (asked setup) ring finished)))
-        (rw (ne-eqb (given .length) 0 some) refl)
-        ∙ ap (λ (x : Endpoint × List ℕ × List ℕ). joinedBy setup (closed (kept setup) x))
-        (three-strides (begunWith setup) (kept setup) (asked setup) ring finished refl refl some)
+    staged-alike : (n : ℕ) → required c (length lengths) ≡ n → Staged (begunWith c) (kept c) (asked c) ring finished n → Alike c
+    unfolding startedEndpoint writePackets closed trbOf deferred firstOf sentBy plainPut deferredPut
+    staged-alike n many stages =
+        ap (λ (m : ℕ). joinedBy c (closed (kept c) (asked c) (strides m (begunWith c) (kept c) (asked c) ring finished))) many
+        ∙ ap (λ (x : Endpoint × List ℕ × List ℕ). joinedBy c (closed (kept c) (asked c) x)) stages
 
-    control-alike : Alike setup
-    control-alike = ⊎-elim two-alike three-alike (same-or-not (given .length) 0)
+    control-alike : Alike c
+    unfolding startedEndpoint
+    control-alike =
+        ⊎-elim
+        (λ (none : given .length ≡ 0). staged-alike 2 (rw (eq-eqb (given .length) 0 none) refl) (two-strides (begunWith c) (kept c) (asked c) ring finished refl late none))
+        (λ (some : given .length ≡ 0 → ⊥). staged-alike 3 (rw (ne-eqb (given .length) 0 some) refl) (three-strides (begunWith c) (kept c) (asked c) ring finished refl late some))
+        (same-or-not (given .length) 0)
 
   module _ (incoming : Bool) (given : Request) (sized : length packets ≡ 4096) (below : recordTaken e < 64)
       (short : tooLong (Isoch incoming) (given .length) lengths ≡ false) where
@@ -176,11 +193,11 @@ module _ (e : Endpoint) (records packets : List ℕ) (lengths ring finished : Li
     asks k l = ap (λ (p : Packet). p .requested) (packet-written packets (recordTaken e) incoming (given .length) lengths sized below short k l)
 
     isoch-alike : Alike q
-    unfolding startedEndpoint writePackets closed sentBy sentIsoch
+    unfolding startedEndpoint writePackets closed deferred sentBy sentIsoch
     isoch-alike =
-        ap (λ (n : ℕ). joinedBy q (closed (kept q) (strides n b (kept q) (asked q) ring finished)))
+        ap (λ (n : ℕ). joinedBy q (closed (kept q) (asked q) (strides n b (kept q) (asked q) ring finished)))
         (sym (count-is q lengths (idTaken e records) (e .at .place) short) ∙ counted)
-        ∙ ap (λ (x : Endpoint × List ℕ × List ℕ). joinedBy q (closed (kept q) x))
+        ∙ ap (λ (x : Endpoint × List ℕ × List ℕ). joinedBy q (closed (kept q) (asked q) x))
         (packets-stride b (kept q) (asked q) (atLeastOne lengths) refl counted asks (length (atLeastOne lengths)) 0 (penOf b) ring finished (omega arith))
 
   alike : (what : What) (given : Request) → length packets ≡ 4096 → recordTaken e < 64 → tooLong what (given .length) lengths ≡ false
@@ -208,7 +225,7 @@ module _ (e : Endpoint) (ring finished records packets : List ℕ) (request : Re
   held = recordFor request (length lengths) (idTaken e records) (e .at .place)
 
   abbrev stridden : ℕ → Record → Whole
-  stridden n v = closed v (strides n begunNow v askedNow ring finished)
+  stridden n v = closed v askedNow (strides n begunNow v askedNow ring finished)
 
   same-record : recordAt written (begunNow .work .number) ≡ held
   unfolding startedEndpoint

@@ -1,6 +1,6 @@
 -- A submission under way, TRB by TRB, ends as it does store by store: so many strides and the close are what `dock`'s stores come to. Assumes nothing.
 use Prim.Native.Nat.{ℕ, zero, suc, _+_}
-use mathlib.Core.Bool.{Bool, true, false}
+use mathlib.Core.Bool.{Bool, true, false, false≢true}
 use mathlib.Core.List.{List}
 use mathlib.Core.Logic.{_⊎_, ⊎-elim}
 use mathlib.Core.Path.{_≡_, refl, sym, ap, subst, _∙_}
@@ -9,24 +9,25 @@ use borrow.Author.Tests.{eq-eqb, ne-eqb}
 use lib.Dec.{eqb}
 use lib.ListN.{length}
 use Rattle.base.proofs.Compare.{same-or-not}
+use Rattle.ids.proofs.AnyLaws.{true-or-false}
 use Rattle.ring.specs.Ring.{storeAt}
 use Rattle.ring.specs.declared.Position.{Position}
-use Rattle.records.specs.Records.{control}
 use Rattle.records.specs.declared.Record.{Record}
 use Rattle.dock.specs.declared.Endpoint.{Endpoint}
 use Rattle.dock.specs.declared.StoredAll.{StoredAll}
 use Rattle.dock.specs.declared.StoredOne.{StoredOne}
 use Rattle.dock.specs.declared.Submitted.the-variants as submitted
 use Rattle.dock.specs.declared.Stored.the-variants as stored
-use Rattle.dock.specs.Fit.{Next, theLink, theTrb, theSetup, none, nextOf, isNone}
+use Rattle.dock.specs.Fit.{Next, theLink, theTrb, theFirst, none, nextOf, isNone}
 use Rattle.dock.specs.State.{idle, moved}
 use Rattle.dock.specs.Store.{storeNo, store, stepped, ringStored, finishedStored}
-use Rattle.dock.specs.Stores.{trbCount, setupTrb}
+use Rattle.dock.specs.Stores.{trbCount, deferred, firstTrb}
 use Rattle.dock.specs.Submit.{afterStore, finish}
 use Rattle.dock.proofs.FinishLaws.{still}
 use Rattle.dock.proofs.NextLaws.{is-next, Storing, store-admits}
 use Rattle.dock.proofs.RefusalLaws.{store-acts}
-use Rattle.dock.proofs.StepLaws.{setup-is-last, store-goes-on, store-ends}
+use Rattle.dock.proofs.TdLaws.{chain-same}
+use Rattle.dock.proofs.StepLaws.{first-is-last, store-goes-on, store-ends}
 use Rattle.dock.proofs.StoreLaws.{flyingRecord, nextStore, ring-length, finished-length}
 use Rattle.striding.specs.Stride.{putTrb, nextPut, strode, strides, closed}
 
@@ -208,7 +209,7 @@ module _ (records packets : List ℕ) where
         led-on r (e .who .dci) e ring finished atLast ringLast finishedLast next (put .1) (put .2)
         (one-store e ring finished s theTrb trb atLast ringLast finishedLast refl refl refl)
         (ap isNone (link-due last))
-        (λ t. one-store atLast ringLast finishedLast t theLink (link-due last) next (put .1) (put .2) (rw test) (rw test) refl)
+        (λ t. one-store atLast ringLast finishedLast t theLink (link-due last) next (put .1) (put .2) (rw test) (rw (test, chain-same theTrb e r packets)) refl)
 
     stride : onto
     stride = ⊎-elim long short (same-or-not (e .at .place + 2) (e .shape .slots))
@@ -226,13 +227,14 @@ module _ (records packets : List ℕ) where
   -- ---- to the end
 
   module _ (v : Record) (x : Endpoint) (ring finished : List ℕ) where
-    control-closed : v .kind ≡ control → endWith v (x .who .dci) x (storeAt ring (x .work .place) (setupTrb v) (x .work .cycle)) finished ≡ closed v (x, ring, finished)
+    again-closed : deferred v ≡ true
+        → endWith v (x .who .dci) x (storeAt ring (x .work .place) (firstTrb x v packets) (x .work .cycle)) finished ≡ closed v packets (x, ring, finished)
     unfolding closed
-    control-closed kind = rw (eq-eqb (v .kind) control kind)
+    again-closed late = rw late
 
-    other-closed : (v .kind ≡ control → ⊥) → endWith v (x .who .dci) x ring finished ≡ closed v (x, ring, finished)
+    other-closed : deferred v ≡ false → endWith v (x .who .dci) x ring finished ≡ closed v packets (x, ring, finished)
     unfolding closed
-    other-closed kind = rw (ne-eqb (v .kind) control kind)
+    other-closed early = rw early
 
   module _ (e : Endpoint) (ring finished : List ℕ) (s : Storing e ring finished records packets)
       (trb : nextOf e (flyingRecord e records) ≡ theTrb) (all : e .work .stored + 1 ≡ trbCount (flyingRecord e records)) where
@@ -248,31 +250,31 @@ module _ (records packets : List ℕ) where
     low : end .at .place + 1 ≡ end .shape .slots → ⊥
     low = low-again e ring finished s trb
 
-    -- Behind the last TRB of a control request the setup comes again,
-    with-setup : g .kind ≡ control → Ends e ring finished (closed g (end, last .1, last .2))
+    -- Behind the last TRB of a deferred TD the first comes again,
+    with-first : deferred g ≡ true → Ends e ring finished (closed g packets (end, last .1, last .2))
     unfolding Leads stepped ringStored finishedStored
-    with-setup kind =
-        let due : nextOf end g ≡ theSetup = is-next end g theSetup (low, kind, all) in
+    with-first late =
+        let due : nextOf end g ≡ theFirst = is-next end g theFirst (low, late, all) in
         let k = stride e ring finished s trb .1 (ap isNone due) in
-        let over = setup-is-last end g packets due in
-        subst (Ends e ring finished) (control-closed g end (last .1) (last .2) kind)
+        let over = first-is-last end g packets due in
+        subst (Ends e ring finished) (again-closed g end (last .1) (last .2) late)
         (k .1 _
-        (one-store end (last .1) (last .2) (k .0) theSetup due (stepped theSetup end g packets) (ringStored theSetup end g packets (last .1)) (last .2) refl refl refl .0 over))
+        (one-store end (last .1) (last .2) (k .0) theFirst due (stepped theFirst end g packets) (ringStored theFirst end g packets (last .1)) (last .2) refl refl refl .0 over))
 
     -- behind that of any other nothing.
-    without : (g .kind ≡ control → ⊥) → Ends e ring finished (closed g (end, last .1, last .2))
+    without : deferred g ≡ false → Ends e ring finished (closed g packets (end, last .1, last .2))
     unfolding Leads
-    without kind =
-        let over : nextOf end g ≡ none = is-next end g none (low, omega arith, λ k. kind (k .0)) in
-        subst (Ends e ring finished) (other-closed g end (last .1) (last .2) kind) (stride e ring finished s trb .0 over)
+    without early =
+        let over : nextOf end g ≡ none = is-next end g none (low, omega arith, λ k. false≢true (sym early ∙ k .0)) in
+        subst (Ends e ring finished) (other-closed g end (last .1) (last .2) early) (stride e ring finished s trb .0 over)
 
-    ends-one : Ends e ring finished (closed g (end, last .1, last .2))
-    ends-one = ⊎-elim with-setup without (same-or-not (g .kind) control)
+    ends-one : Ends e ring finished (closed g packets (end, last .1, last .2))
+    ends-one = ⊎-elim with-first without (true-or-false (deferred g))
 
   -- A submission of which so many TRBs are left ends as its strides and the close leave it.
   pub strides-end : (n : ℕ) (e : Endpoint) (ring finished : List ℕ) → Storing e ring finished records packets
       → nextOf e (flyingRecord e records) ≡ theTrb → e .work .stored + suc n ≡ trbCount (flyingRecord e records)
-      → Ends e ring finished (closed (flyingRecord e records) (strides (suc n) e (flyingRecord e records) packets ring finished))
+      → Ends e ring finished (closed (flyingRecord e records) packets (strides (suc n) e (flyingRecord e records) packets ring finished))
   unfolding strides Leads
   strides-end zero e ring finished s trb left = ends-one e ring finished s trb left
   strides-end (suc n) e ring finished s trb left =

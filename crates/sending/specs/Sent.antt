@@ -9,7 +9,7 @@ use Rattle.base.specs.First.{pick}
 use Rattle.ring.specs.declared.Position.{Position}
 use Rattle.ids.specs.Free.{recordCount}
 use Rattle.packets.specs.Packets.{packetCount}
-use Rattle.records.specs.Records.{control, isoch}
+use Rattle.records.specs.Records.{isoch}
 use Rattle.records.specs.declared.Record.{Record}
 use Rattle.dock.specs.declared.Endpoint.{Endpoint}
 use Rattle.dock.specs.declared.StoredAll.{StoredAll}
@@ -17,9 +17,9 @@ use Rattle.dock.specs.declared.Submitted.the-variants.{Done}
 use Rattle.dock.specs.Limits.{ringSize, packetsSize}
 use Rattle.dock.specs.Start.{atLeastOne}
 use Rattle.dock.specs.State.{idle, moved}
-use Rattle.dock.specs.Stores.{normalTrb}
+use Rattle.dock.specs.Stores.{normalTrb, deferred, chained}
 use Rattle.isoch.specs.declared.Pen.{Pen}
-use Rattle.striding.specs.Controls.{putSame, controlPut}
+use Rattle.striding.specs.Deferred.{putSame, deferredPut}
 use Rattle.isoch.specs.Packed.{allPut}
 
 -- The end: the id and the doorbell word, the pen's position and frame, nothing under way.
@@ -37,7 +37,7 @@ sentIsoch e v ring finished packets sizes =
 
 unfoldable pub plainPut : Endpoint → Record → List ℕ → List ℕ → Position × List ℕ × List ℕ
 plainPut e v ring finished =
-    pick (eqb (v .kind) control) (controlPut (e .shape) (e .at) v ring finished) (putSame (e .shape) (e .at) (normalTrb v) ring finished)
+    pick (deferred v) (deferredPut (e .shape) (chained e v) (e .at) v ring finished) (putSame (e .shape) (chained e v) (e .at) (normalTrb v) ring finished)
 
 unfoldable pub sentBy : Endpoint → Record → List ℕ → List ℕ → List ℕ → List ℕ → StoredAll × List ℕ × List ℕ × List ℕ
 sentBy e v ring finished packets lengths =

@@ -15,7 +15,7 @@ use dock::Submitted;
 use isoch::Pen;
 use records::Record;
 use ring::Position;
-use striding::control;
+use striding::deferred;
 use striding::put;
 
 // The end of a submission: nothing is under way.
@@ -71,17 +71,18 @@ fn send_isoch(
     ended(e, v.id, q, end.frame)
 }
 
-// Control, or one TRB.
+// A deferred TD, or one TRB.
 fn put_plain(ring: &mut [u32], finished: &mut [u32], e: Endpoint, v: Record) -> Position
     requires { ⌜ (4 * e .shape .slots ≤ length (now ring)) × (4 * e .shape .slots ≤ length (now finished)) × (2 ≤ e .shape .slots) × (e .at .place + 1 < e .shape .slots) ⌝ }
     ensures { λ r. ⌜ (r, now (ring .exit), now (finished .exit)) ≡ plainPut e v (now (ring .entry)) (now (finished .entry)) ⌝ }
 {
     let shape = e.shape;
     let p = e.at;
-    if v.kind == checks::CONTROL {
-        return control::put_control(ring, finished, shape, p, v);
+    let chain = checks::is_chained(e, v);
+    if checks::is_deferred(v) {
+        return deferred::put_deferred_td(ring, finished, shape, chain, p, v);
     }
-    put::put(ring, finished, shape, p, trbs::normal_trb(v))
+    put::put(ring, finished, shape, chain, p, trbs::normal_trb(v))
 }
 
 pub fn send(

@@ -89,11 +89,11 @@ fn run_on(e: Endpoint, v: Record, size: u32) -> u64
     std::num::wrapping_add_u64(e.work.address, size as u64)
 }
 
-// "A control TD stores its setup with the opposite cycle, the rest as usual."
+// The first TRB of a deferred TD goes out with the opposite cycle, the rest as usual.
 pub fn first_cycle(e: Endpoint, v: Record) -> bool
     ensures { λ r. ⌜ r ≡ firstCycle e v ⌝ }
 {
-    if v.kind != checks::CONTROL {
+    if !checks::is_deferred(v) {
         return e.at.cycle;
     }
     if e.work.stored != 0 {
@@ -139,7 +139,7 @@ pub fn concluded(after: Endpoint, v: Record, slot: usize) -> StoredOne
     match next {
         Next::Link => more,
         Next::Trb => more,
-        Next::Setup => more,
+        Next::First => more,
         Next::Nothing => StoredOne {
             answer: Stored::Last {
                 slot,

@@ -1,6 +1,6 @@
 -- A store: its tests as facts, and its parts as the code makes them. Assumes nothing.
 use Prim.Native.Nat.{ℕ}
-use mathlib.Core.Bool.{_&&_, and-eq-true-iff}
+use mathlib.Core.Bool.{true, _&&_, and-eq-true-iff}
 use mathlib.Core.List.{List}
 use mathlib.Core.Path.{_≡_, refl}
 use native.Mathlib.Omega.{arith}
@@ -10,18 +10,19 @@ use lib.ListN.{length}
 use Rattle.base.proofs.Chosen.{quiet}
 use Rattle.records.specs.Records.{recordAt}
 use Rattle.records.specs.declared.Record.{Record}
-use Rattle.dock.specs.Fit.{theLink, theTrb, theSetup, none, fitsWith}
+use Rattle.dock.specs.Fit.{theLink, theTrb, theFirst, none, fitsWith}
 use Rattle.dock.specs.Limits.{ringSize, packetsSize}
 use Rattle.dock.specs.Store.{storeTests, storeNo, stepped, slotStored, ringStored, finishedStored, storedAnswer}
-use Rattle.dock.specs.Stores.{trbOf, packetSize}
+use Rattle.dock.specs.Stores.{trbOf, packetSize, deferred}
 use Rattle.dock.specs.declared.Endpoint.{Endpoint}
 use Rattle.dock.specs.declared.StoredOne.{StoredOne}
 use Rattle.checks.proofs.Laws.{fit, fit-with, count-most}
 use Rattle.dock.proofs.TestLaws.{on-course}
 use Rattle.storing.specs.Ready.{Ready}
 use Rattle.trbs.specs.Trbs.{controlTrb, trbWith}
+use Rattle.trbs.proofs.FirstLaws.{first-of}
 use Rattle.steps.specs.Steps.{advancedBy, concludedBy}
-use Rattle.storing.specs.Stored.{linkBy, trbBy, setupBy, storedWith}
+use Rattle.storing.specs.Stored.{linkBy, trbBy, firstBy, storedWith}
 
 -- Where no test holds, a store has what it needs.
 pub ready : (e : Endpoint) (ring finished : ℕ) (records : List ℕ) (packets : ℕ) → storeNo e ring finished records packets ≡ 0
@@ -46,7 +47,7 @@ ready e ring finished records packets t =
       words = eqb-true _ _ (all .1);
       most = sound .limits .slots-most;
       here = sound .places .here;
-      setup = sound .places .setup busy;
+      first = sound .places .first busy;
       number = way .number;
       stored = let s = way .counted in omega (arith, count-most (recordAt records (e .work .number)));
     }
@@ -62,9 +63,10 @@ module _ (e : Endpoint) (v : Record) (ring finished packets : List ℕ) where
   unfolding storedWith trbBy advancedBy trbWith controlTrb trbOf concludedBy stepped slotStored ringStored finishedStored storedAnswer
   trb-stored = refl
 
-  pub setup-stored : _≡_ {A = StoredOne × List ℕ × List ℕ} (setupBy e v ring .0, setupBy e v ring .1, finished) (storedWith theSetup e v ring finished packets)
-  unfolding storedWith setupBy concludedBy stepped slotStored ringStored finishedStored storedAnswer
-  setup-stored = refl
+  pub first-stored : deferred v ≡ true
+      → _≡_ {A = StoredOne × List ℕ × List ℕ} (firstBy e v ring .0, firstBy e v ring .1, finished) (storedWith theFirst e v ring finished packets)
+  unfolding storedWith firstBy concludedBy stepped slotStored ringStored finishedStored storedAnswer
+  first-stored late = rw (first-of e v packets late) refl
 
   pub none-stored : _≡_ {A = StoredOne × List ℕ × List ℕ} (concludedBy e v 0, ring, finished) (storedWith none e v ring finished packets)
   unfolding storedWith concludedBy stepped slotStored ringStored finishedStored storedAnswer

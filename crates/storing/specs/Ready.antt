@@ -13,6 +13,6 @@ pub record Ready (e : Endpoint) (ring finished records packets : ℕ) : Type 0 w
   pub words : packets ≡ packetsSize
   pub most : e .shape .slots ≤ 4096
   pub here : e .at .place + 1 ≤ e .shape .slots
-  pub setup : e .work .place + 1 < e .shape .slots
+  pub first : e .work .place + 1 < e .shape .slots
   pub number : e .work .number < recordCount
   pub stored : e .work .stored ≤ packetCount

@@ -1,8 +1,7 @@
 -- One store by its parts, with the size of its packet read already.
 use Prim.Native.Nat.{ℕ, _+_}
-use mathlib.Core.Bool.{false}
 use mathlib.Core.List.{List}
-use Rattle.ring.specs.Ring.{storeAt, around, linkTrb}
+use Rattle.ring.specs.Ring.{storeAt, around}
 use Rattle.finished.specs.Finished.{clearPlace}
 use Rattle.records.specs.Records.{recordAt}
 use Rattle.records.specs.declared.Record.{Record}
@@ -10,16 +9,16 @@ use Rattle.dock.specs.declared.Endpoint.{Endpoint}
 use Rattle.dock.specs.declared.StoredOne.{StoredOne}
 use Rattle.dock.specs.Fit.{Next, nextOf}
 use Rattle.dock.specs.State.{moved}
-use Rattle.dock.specs.Stores.{setupTrb}
+use Rattle.dock.specs.Stores.{linkFor}
 use Rattle.dock.specs.Store.{worked, firstCycle, stepped, ringStored, finishedStored, settled, storedAnswer}
-use Rattle.trbs.specs.Trbs.{trbWith}
+use Rattle.trbs.specs.Trbs.{firstOf, trbWith}
 use Rattle.steps.specs.Steps.{advancedBy, concludedBy}
 
 -- The link's store,
 unfoldable pub linkBy : Endpoint → Record → List ℕ → StoredOne × List ℕ
 linkBy e v ring = (
   concludedBy (moved e (around (e .at)) (e .periodic .frame) (worked (e .work) (e .work .stored) (e .work .address))) v (e .at .place),
-  storeAt ring (e .at .place) (linkTrb (e .shape .base) false) (e .at .cycle),
+  storeAt ring (e .at .place) (linkFor e v) (e .at .cycle),
 )
 
 -- a TRB's,
@@ -30,11 +29,11 @@ trbBy e v size ring finished = (
   clearPlace finished (e .at .place),
 )
 
--- and the setup's, again.
-unfoldable pub setupBy : Endpoint → Record → List ℕ → StoredOne × List ℕ
-setupBy e v ring = (
+-- and the first TRB's, again.
+unfoldable pub firstBy : Endpoint → Record → List ℕ → StoredOne × List ℕ
+firstBy e v ring = (
   concludedBy (moved e (e .at) (e .periodic .frame) (worked (e .work) (e .work .stored + 1) (e .work .address))) v (e .work .place),
-  storeAt ring (e .work .place) (setupTrb v) (e .work .cycle),
+  storeAt ring (e .work .place) (firstOf v) (e .work .cycle),
 )
 
 -- What a store that is not refused answers and leaves, by what it is,

@@ -12,7 +12,7 @@ ghost use Rattle.dock.specs.Fit.{fitsWith};
 ghost use Rattle.dock.specs.State.{moved};
 ghost use Rattle.dock.specs.Store.{storeNo, worked};
 ghost use Rattle.storing.specs.Ready.{Ready};
-ghost use Rattle.storing.specs.Stored.{linkBy, trbBy, setupBy, storedBy};
+ghost use Rattle.storing.specs.Stored.{linkBy, trbBy, firstBy, storedBy};
 use checks::Next;
 use dock::Endpoint;
 use dock::StoredOne;
@@ -48,7 +48,8 @@ fn store_link(e: Endpoint, v: Record, ring: &mut [u32]) -> StoredOne
     ensures { λ r. ⌜ (r, now (ring .exit)) ≡ linkBy e v (now (ring .entry)) ⌝ }
 {
     let p = e.at;
-    let q = ring::next_index(ring, p, e.shape.base, false);
+    let chain = checks::is_chained(e, v);
+    let q = ring::next_index(ring, p, e.shape.base, chain);
     let w = e.work;
     let after = steps::moved(
         e,
@@ -71,15 +72,15 @@ fn store_trb(e: Endpoint, v: Record, size: u32, ring: &mut [u32], finished: &mut
     steps::concluded(steps::advanced(e, v, size), v, place)
 }
 
-// The setup's second store, with the right cycle.
-fn store_setup(e: Endpoint, v: Record, ring: &mut [u32]) -> StoredOne
+// The first TRB's second store, with the right cycle.
+fn store_first(e: Endpoint, v: Record, ring: &mut [u32]) -> StoredOne
     requires { ⌜ (4 * e .work .place + 4 ≤ length (now ring)) × (e .work .stored ≤ packetCount) × (0 < e .shape .slots) ⌝ }
-    ensures { λ r. ⌜ (r, now (ring .exit)) ≡ setupBy e v (now (ring .entry)) ⌝ }
+    ensures { λ r. ⌜ (r, now (ring .exit)) ≡ firstBy e v (now (ring .entry)) ⌝ }
 {
     let p = e.at;
     let w = e.work;
     let place = w.place;
-    ring::set_transfer_trb(ring, place, trbs::setup_trb(v), w.cycle);
+    ring::set_transfer_trb(ring, place, trbs::first_trb(v), w.cycle);
     let after = steps::moved(
         e,
         p,
@@ -109,7 +110,7 @@ pub fn store_one(
             let p = packets::packet_at(packets, number, e.work.stored);
             store_trb(e, v, p.requested, ring, finished)
         }
-        Next::Setup => store_setup(e, v, ring),
+        Next::First => store_first(e, v, ring),
         Next::Nothing => steps::concluded(e, v, 0),
     }
 }

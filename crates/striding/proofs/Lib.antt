@@ -1,2 +1,2 @@
--- The laws of one TRB's store and of a control TD.
+-- The laws of one TRB's store and of a deferred TD.
 pub mod PutLaws

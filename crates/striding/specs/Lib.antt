@@ -1,3 +1,3 @@
 -- What the contracts of `striding` cite.
 pub mod Stride
-pub mod Controls
+pub mod Deferred

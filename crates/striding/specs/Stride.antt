@@ -1,7 +1,7 @@
 -- A submission TRB by TRB: a TRB's store and, where the place reaches L-1, the link's behind it. `dock` has it store by store; that both come to the
 -- same is `strides-end` in proofs/.
 use Prim.Native.Nat.{ℕ, zero, suc, _+_}
-use mathlib.Core.Bool.{Bool, false}
+use mathlib.Core.Bool.{Bool}
 use mathlib.Core.List.{List}
 use lib.Dec.{eqb}
 use Rattle.base.specs.First.{pick}
@@ -9,7 +9,6 @@ use Rattle.trb.specs.declared.Trb.{Trb}
 use Rattle.ring.specs.Ring.{storeAt, onward, around, linkTrb}
 use Rattle.ring.specs.declared.Position.{Position}
 use Rattle.finished.specs.Finished.{clearPlace}
-use Rattle.records.specs.Records.{control}
 use Rattle.records.specs.declared.Record.{Record}
 use Rattle.dock.specs.declared.Endpoint.{Endpoint}
 use Rattle.dock.specs.declared.Shape.{Shape}
@@ -17,27 +16,27 @@ use Rattle.dock.specs.declared.StoredAll.{StoredAll}
 use Rattle.dock.specs.declared.Submitted.the-variants.{Done}
 use Rattle.dock.specs.State.{idle, moved}
 use Rattle.dock.specs.Store.{worked, runOn, frameOn, firstCycle}
-use Rattle.dock.specs.Stores.{setupTrb, trbOf}
+use Rattle.dock.specs.Stores.{trbOf, deferred, firstTrb, chained}
 
 -- "Reaching L-1 it adds a second store, the link at L-1 with the old cycle, then place 0 and the cycle toggled": the position,
 abbrev pub linked : ℕ → Position → Position
 linked slots p = pick (eqb (p .place + 1) slots) (around p) p
 
--- and the ring.
-abbrev pub linkedRing : Shape → Position → List ℕ → List ℕ
-linkedRing shape p ring = pick (eqb (p .place + 1) (shape .slots)) (storeAt ring (p .place) (linkTrb (shape .base) false) (p .cycle)) ring
+-- and the ring, with the link chained or not.
+abbrev pub linkedRing : Shape → Bool → Position → List ℕ → List ℕ
+linkedRing shape chain p ring = pick (eqb (p .place + 1) (shape .slots)) (storeAt ring (p .place) (linkTrb (shape .base) chain) (p .cycle)) ring
 
-unfoldable pub linkOn : Shape → Position → List ℕ → Position × List ℕ
-linkOn shape p ring = (linked (shape .slots) p, linkedRing shape p ring)
+unfoldable pub linkOn : Shape → Bool → Position → List ℕ → Position × List ℕ
+linkOn shape chain p ring = (linked (shape .slots) p, linkedRing shape chain p ring)
 
 -- A TRB with a cycle at the place, its place in the finished table cleared, and the link where it is due.
-unfoldable pub putTrb : Shape → Position → Trb → Bool → List ℕ → List ℕ → Position × List ℕ × List ℕ
-putTrb shape p trb cycle ring finished =
-    (linked (shape .slots) (onward p), linkedRing shape (onward p) (storeAt ring (p .place) trb cycle), clearPlace finished (p .place))
+unfoldable pub putTrb : Shape → Bool → Position → Trb → Bool → List ℕ → List ℕ → Position × List ℕ × List ℕ
+putTrb shape chain p trb cycle ring finished =
+    (linked (shape .slots) (onward p), linkedRing shape chain (onward p) (storeAt ring (p .place) trb cycle), clearPlace finished (p .place))
 
 -- The next TRB of the submission under way, so.
 abbrev pub nextPut : Endpoint → Record → List ℕ → List ℕ → List ℕ → Position × List ℕ × List ℕ
-nextPut e v packets ring finished = putTrb (e .shape) (e .at) (trbOf e v packets (e .work .stored)) (firstCycle e v) ring finished
+nextPut e v packets ring finished = putTrb (e .shape) (chained e v) (e .at) (trbOf e v packets (e .work .stored)) (firstCycle e v) ring finished
 
 -- The endpoint behind it, which stands at p.
 abbrev pub strode : Endpoint → Record → List ℕ → Position → Endpoint
@@ -49,10 +48,10 @@ strides zero e v packets ring finished = (e, ring, finished)
 strides (suc n) e v packets ring finished =
     let s = nextPut e v packets ring finished in strides n (strode e v packets (s .0)) v packets (s .1) (s .2)
 
--- The end of a submission whose TRBs are stored: for control the setup again, with the right cycle; then nothing is under way.
-unfoldable pub closed : Record → Endpoint × List ℕ × List ℕ → StoredAll × List ℕ × List ℕ
-closed v s = (
+-- The end of a submission whose TRBs are stored: for a deferred TD the first TRB again, with the right cycle; then nothing is under way.
+unfoldable pub closed : Record → List ℕ → Endpoint × List ℕ × List ℕ → StoredAll × List ℕ × List ℕ
+closed v packets s = (
   record { answer = Done (v .id) (s .0 .who .dci); endpoint = moved (s .0) (s .0 .at) (s .0 .periodic .frame) idle },
-  pick (eqb (v .kind) control) (storeAt (s .1) (s .0 .work .place) (setupTrb v) (s .0 .work .cycle)) (s .1),
+  pick (deferred v) (storeAt (s .1) (s .0 .work .place) (firstTrb (s .0) v packets) (s .0 .work .cycle)) (s .1),
   s .2,
 )

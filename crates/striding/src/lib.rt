@@ -1,3 +1,3 @@
-// TRBs stored one behind the other, each with its place cleared and the link where it is due; a control TD of them.
-pub mod control;
+// TRBs stored one behind the other, each with its place cleared and the link where it is due; a deferred TD of them.
+pub mod deferred;
 pub mod put;

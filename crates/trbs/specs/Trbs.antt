@@ -9,6 +9,10 @@ use Rattle.records.specs.declared.Record.{Record}
 use Rattle.dock.specs.declared.Endpoint.{Endpoint}
 use Rattle.dock.specs.Stores.{setupTrb, dataTrb, statusTrb, normalTrb, isochTrb}
 
+-- The first TRB of a deferred TD, which goes by its record alone: a control request's setup.
+unfoldable pub firstOf : Record → Trb
+firstOf v = setupTrb v
+
 -- TRB k of a control request.
 unfoldable pub controlTrb : Record → ℕ → Trb
 controlTrb v k = pick (eqb k 0) (setupTrb v) (pick (eqb k 1 && ltb 0 (v .length)) (dataTrb v) (statusTrb v))

@@ -5,7 +5,7 @@ ghost use Prim.Native.Nat.{_≤_};
 ghost use lib.Dec.{ltb};
 ghost use Rattle.packets.specs.Packets.{packetCount};
 ghost use Rattle.dock.specs.Stores.{transferType, setupTrb, dataTrb, statusTrb, normalTrb, isochTrb};
-ghost use Rattle.trbs.specs.Trbs.{controlTrb, trbWith};
+ghost use Rattle.trbs.specs.Trbs.{firstOf, controlTrb, trbWith};
 use dock::Endpoint;
 use records::Record;
 use trb::Trb;
@@ -23,7 +23,7 @@ fn transfer_type(v: Record) -> u32
     2
 }
 
-pub fn setup_trb(v: Record) -> Trb
+fn setup_trb(v: Record) -> Trb
     ensures { λ r. ⌜ r ≡ setupTrb v ⌝ }
 {
     Trb::Setup {
@@ -34,6 +34,13 @@ pub fn setup_trb(v: Record) -> Trb
         length: (v.length % 0x1_0000) as u16,
         transfer: transfer_type(v),
     }
+}
+
+// The first TRB of a deferred TD, which goes by its record alone.
+pub fn first_trb(v: Record) -> Trb
+    ensures { λ r. ⌜ r ≡ firstOf v ⌝ }
+{
+    setup_trb(v)
 }
 
 // Data: "bit 2 (short interrupt) and bit 16 when in".

@@ -1,16 +1,18 @@
 -- `first_cycle` meets its contract, by its tests. Assumes nothing.
 use borrow.Author.Tests.{eq-eqb, ne-eqb}
+use Rattle.base.proofs.Decide.{passed, failed}
+use borrow.Author.Needs.{needs}
 use Rattle.steps.proofs.first_cycle.Statement.{statement}
 use Rattle.steps.proofs.first_cycle.Tie as tie
 
 returns : tie.Need-returns
-returns c = simp (ne-eqb _ _ (c .if1 .taken))
+returns c = simp (failed (c .before .is-deferred .ensures) (c .if1 .taken))
 
 returns-2 : tie.Need-returns-2
-returns-2 c = simp (eq-eqb _ _ (c .before .before .if1 .left), ne-eqb _ _ (c .if2 .taken))
+returns-2 c = simp (passed (c .before .before .before .is-deferred .ensures) (c .before .before .if1 .left), ne-eqb _ _ (c .if2 .taken))
 
 returns-3 : tie.Need-returns-3
-returns-3 c = simp (eq-eqb _ _ (c .before .before .before .if1 .left), eq-eqb _ _ (c .before .if2 .left))
+returns-3 c = simp (passed (c .before .before .before .before .is-deferred .ensures) (c .before .before .before .if1 .left), eq-eqb _ _ (c .before .if2 .left))
 
 pub first-cycle-spec : {M : Type 1} → statement M
-first-cycle-spec = tie.close (tie.spec returns returns-2 returns-3)
+first-cycle-spec = tie.close (tie.spec (λ c κs. search needs) returns returns-2 returns-3)

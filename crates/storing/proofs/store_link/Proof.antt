@@ -9,19 +9,20 @@ use Rattle.storing.proofs.store_link.Statement.{statement}
 use Rattle.storing.proofs.store_link.Tie as tie
 
 concluded-requires : tie.Need-concluded-requires
-concluded-requires c κs = simp (c .moved .ensures) (c .before .before .before .before .before .before .before .before .before .pre .1)
+concluded-requires c κs = simp (c .moved .ensures) (c .before .before .before .before .before .before .before .before .before .before .pre .1)
 
 returns : tie.Need-returns
 unfolding linkBy
 returns c =
     let place = ap (λ (x : Position × List ℕ). x .0) (c .before .before .before .before .before .before .next-index .ensures) in
     let words = ap (λ (x : Position × List ℕ). x .1) (c .before .before .before .before .before .before .next-index .ensures) in
-    simp (c .concluded .ensures, c .before .moved .ensures, c .before .before .worked .ensures, place, words)
+    simp (c .concluded .ensures, c .before .moved .ensures, c .before .before .worked .ensures, place, words, c .before .before .before .before .before .before .before .before .is-chained .ensures)
 
 pub store-link-spec : {M : Type 1} → statement M
 store-link-spec =
     tie.close
     (tie.spec
+    (λ c κs. search needs)
     (λ c κs. search needs)
     (λ c κs. search needs)
     (λ c κs. search needs)

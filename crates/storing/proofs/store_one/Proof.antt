@@ -6,10 +6,12 @@ use native.Mathlib.Omega.{arith}
 use denote.Ref.{now}
 use Rattle.checks.specs.Step.{named}
 use Rattle.checks.proofs.Laws.{count-most, trb-left}
+use Rattle.dock.specs.Fit.{theFirst}
+use Rattle.dock.proofs.NextLaws.{because}
 use Rattle.dock.specs.declared.StoredOne.{StoredOne}
 use Rattle.packets.specs.declared.Packet.{Packet}
 use Rattle.storing.specs.Stored.{trbBy, storedBy}
-use Rattle.storing.proofs.StoreLaws.{link-stored, trb-stored, setup-stored, none-stored}
+use Rattle.storing.proofs.StoreLaws.{link-stored, trb-stored, first-stored, none-stored}
 use borrow.Author.Needs.{needs}
 use Rattle.storing.proofs.store_one.Statement.{statement}
 use Rattle.storing.proofs.store_one.Tie as tie
@@ -47,9 +49,10 @@ unfolding storedBy
 returns-3 c =
     let a = c .before .before .before .before .before .before .before .before .before .before .before .before .args in
     let v = c .before .before .before .before .before .before .before .record-at .result in
-    simp (← c .before .before .before .before .before .before .before .record-at .ensures, sym (c .before .before .before .before .before .before .next-of .ensures) ∙ ap named (c .before .before .before .before .enum-told3 .given .1))
-    (ap (λ (x : StoredOne × List ℕ). (x .0, x .1, now (a .finished))) (c .before .before .store-setup .ensures)
-    ∙ setup-stored (a .e) v (now (a .ring)) (now (a .finished)) (now (a .packets)))
+    let next = sym (c .before .before .before .before .before .before .next-of .ensures) ∙ ap named (c .before .before .before .before .enum-told3 .given .1) in
+    simp (← c .before .before .before .before .before .before .before .record-at .ensures, next)
+    (ap (λ (x : StoredOne × List ℕ). (x .0, x .1, now (a .finished))) (c .before .before .store-first .ensures)
+    ∙ first-stored (a .e) v (now (a .ring)) (now (a .finished)) (now (a .packets)) (because (a .e) v theFirst next .1))
 
 returns-4 : tie.Need-returns-4
 unfolding storedBy

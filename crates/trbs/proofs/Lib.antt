@@ -1,0 +1,2 @@
+-- The law of a TD's first TRB.
+pub mod FirstLaws
