@@ -8,14 +8,12 @@ use borrow.Author.Tests.{ltb-false, eqb-true, not-false}
 use lib.Dec.{eqb, ltb}
 use lib.ListN.{length}
 use Rattle.base.proofs.Chosen.{quiet}
-use Rattle.sizes.specs.Sizes.{recordCount}
+use Rattle.sizes.specs.Sizes.{mostSlots, capacity, recordCount, packetCount, packetsSize}
 use Rattle.mask.specs.Occupancy.{lowest, Tells}
 use Rattle.mask.specs.declared.Found.the-variants.{At}
 use Rattle.mask.specs.declared.Occupancy.{Occupancy}
 use Rattle.mask.proofs.OccupancyLaws.{lowest-tells}
-use Rattle.packets.specs.Packets.{packetCount}
 use Rattle.dock.specs.Fit.{fitsWith}
-use Rattle.dock.specs.Limits.{packetsSize}
 use Rattle.dock.specs.Requests.{givenOf, required}
 use Rattle.dock.specs.Start.{crowded, tooLong, startTests, startNo}
 use Rattle.dock.specs.declared.Endpoint.{Endpoint}
@@ -42,7 +40,7 @@ few (Bulk incoming) size lengths t = omega arith
 few (Interrupt incoming) size lengths t = omega arith
 few (Isoch incoming) size lengths t = ltb-false _ _ (neither (ltb packetCount (length lengths)) _ (neither _ _ t))
 
-room : (slots outstanding more : ℕ) → slots ≤ 4096 → crowded slots outstanding more ≡ false → outstanding + more ≤ 4094
+room : (slots outstanding more : ℕ) → slots ≤ mostSlots → crowded slots outstanding more ≡ false → outstanding + more ≤ capacity mostSlots
 unfolding crowded
 room slots outstanding more h t = let l = ltb-false (slots - 2) (outstanding + more) t in omega arith
 

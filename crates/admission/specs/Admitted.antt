@@ -1,8 +1,7 @@
 -- What the start of a submission needs of its tests, as facts on numbers.
 use Prim.Native.Nat.{ℕ, _+_, _≤_, _<_}
 use mathlib.Core.Path.{_≡_}
-use Rattle.packets.specs.Packets.{packetCount}
-use Rattle.dock.specs.Limits.{recordsSize, packetsSize}
+use Rattle.sizes.specs.Sizes.{mostSlots, capacity, recordsSize, packetCount, packetsSize}
 use Rattle.dock.specs.Requests.{givenOf, required}
 use Rattle.dock.specs.declared.Endpoint.{Endpoint}
 use Rattle.dock.specs.declared.Request.{Request}
@@ -11,5 +10,5 @@ pub record Admitted (e : Endpoint) (records packets : ℕ) (request : Request) (
   pub table : records ≡ recordsSize
   pub words : packets ≡ packetsSize
   pub next : 0 < e .account .next
-  pub room : e .account .outstanding + required request count ≤ 4094
+  pub room : e .account .outstanding + required request count ≤ capacity mostSlots
   pub few : givenOf (request .what) count ≤ packetCount

@@ -1,12 +1,10 @@
 // The refusals of a submission's start, in order. Every test takes any input: no sum is made before its parts are tested.
 ghost use mathlib.Core.Path.{_≡_};
 ghost use mathlib.Core.Bool.{not, _&&_, _||_};
-ghost use Prim.Native.Nat.{_-_};
 ghost use lib.Dec.{eqb, ltb};
 ghost use lib.ListN.{length};
 ghost use Rattle.mask.specs.Occupancy.{lowest};
-ghost use Rattle.packets.specs.Packets.{packetCount};
-ghost use Rattle.dock.specs.Limits.{packetsSize};
+ghost use Rattle.sizes.specs.Sizes.{capacity, packetCount, packetsSize};
 ghost use Rattle.dock.specs.Fit.{fitsWith};
 ghost use Rattle.dock.specs.Requests.{required};
 ghost use Rattle.dock.specs.Start.{crowded, sumOf, someOver, tooLong, isFull, beyond, startNo};
@@ -16,11 +14,6 @@ use dock::What;
 use mask::Found;
 use mask::Occupancy;
 
-// "Data length: bulk, interrupt or one packet at most 65,536; control at most 65,535."
-const LONGEST: u64 = 65536;
-
-const LONGEST_CONTROL: u64 = 65535;
-
 // Row 1: the endpoint, its records and its packets fit.
 fn is_unfit(e: Endpoint, records: &[u64], packets: usize) -> bool
     ensures { λ r. ⌜ r ≡ not (fitsWith e (now (records .entry)) && eqb packets packetsSize) ⌝ }
@@ -28,12 +21,12 @@ fn is_unfit(e: Endpoint, records: &[u64], packets: usize) -> bool
     if !checks::fits_with(e, records) {
         return true;
     }
-    packets != checks::PACKETS_SIZE
+    packets != sizes::PACKETS_SIZE
 }
 
 // L-2: what a ring of so many slots takes at most.
 fn most_of(slots: usize) -> u64
-    ensures { λ r. ⌜ r ≡ slots - 2 ⌝ }
+    ensures { λ r. ⌜ r ≡ capacity slots ⌝ }
 {
     if slots < 2 {
         return 0;
@@ -60,14 +53,14 @@ fn is_crowded(e: Endpoint, request: Request, count: usize) -> bool
 fn is_over(size: u64, lengths: &[u64]) -> bool
     ensures { λ r. ⌜ r ≡ (ltb packetCount (length (now (lengths .entry))) || someOver (now (lengths .entry)) || ltb size (sumOf (now (lengths .entry)))) ⌝ }
 {
-    if packets::PACKETS < lengths.len() {
+    if sizes::PACKET_COUNT < lengths.len() {
         return true;
     }
     let mut sum: u64 = 0;
     let mut i: usize = 0;
     while i < lengths.len() {
         let n = lengths[i];
-        if LONGEST < n {
+        if sizes::LONGEST < n {
             return true;
         }
         sum += n;
@@ -87,9 +80,9 @@ fn is_too_long(request: Request, lengths: &[u64]) -> bool
             request: _,
             value: _,
             index: _,
-        } => LONGEST_CONTROL < request.length,
-        What::Bulk { incoming: _ } => LONGEST < request.length,
-        What::Interrupt { incoming: _ } => LONGEST < request.length,
+        } => sizes::LONGEST_CONTROL < request.length,
+        What::Bulk { incoming: _ } => sizes::LONGEST < request.length,
+        What::Interrupt { incoming: _ } => sizes::LONGEST < request.length,
         What::Isoch { incoming: _ } => is_over(request.length, lengths),
     }
 }

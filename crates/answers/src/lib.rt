@@ -2,7 +2,7 @@
 ghost use mathlib.Core.Path.{_≡_};
 ghost use Prim.Native.Nat.{_<_, min};
 ghost use Rattle.page.specs.Page.{putAll};
-ghost use Rattle.packets.specs.Packets.{packetCount};
+ghost use Rattle.sizes.specs.Sizes.{packetCount};
 ghost use Rattle.phrases.specs.Text.{outcomeLine, cutLine, storedLines};
 ghost use Rattle.phrases.specs.Text.{submittedLine, takenLine, countedAt, lengthsText, doneLine, reclaimedLine, commandLine, resettingLines};
 ghost use Rattle.phrases.specs.Text.{commandedLine, pointedLine, stateRest, stateLine, standsLine};

@@ -9,8 +9,7 @@ use borrow.Author.Tests.{eqb-true}
 use lib.Dec.{eqb}
 use lib.ListN.{length}
 use Rattle.ids.proofs.AnyLaws.{true-or-false}
-use Rattle.packets.specs.Packets.{packetCount}
-use Rattle.records.specs.Records.{isoch}
+use Rattle.sizes.specs.Sizes.{ringSize, packetCount, isoch}
 use Rattle.records.specs.declared.Record.{Record}
 use Rattle.dock.specs.declared.Endpoint.{Endpoint}
 use Rattle.dock.specs.declared.Request.{Request}
@@ -18,7 +17,6 @@ use Rattle.dock.specs.declared.What.{What}
 use Rattle.dock.specs.declared.What.the-variants.{Control, Bulk, Interrupt, Isoch}
 use Rattle.dock.specs.declared.StoredAll.{StoredAll}
 use Rattle.dock.specs.declared.Submitted.the-variants as submitted
-use Rattle.dock.specs.Limits.{ringSize}
 use Rattle.dock.specs.Requests.{kindOf, recordFor}
 use Rattle.dock.specs.Start.{startNo, tooLong, idTaken, startedEndpoint, startedRecords}
 use Rattle.dock.specs.Submit.{submit}

@@ -6,7 +6,7 @@ use lib.Dec.{eqb}
 use Rattle.base.specs.First.{pick}
 use Rattle.dock.specs.declared.Endpoint.{Endpoint}
 use Rattle.dock.specs.declared.Request.{Request}
-use Rattle.dock.specs.Limits.{ringSize}
+use Rattle.sizes.specs.Sizes.{ringSize}
 use Rattle.dock.specs.Start.{startNo}
 
 -- A ring or a finished table of a wrong size: 1; else as the start.

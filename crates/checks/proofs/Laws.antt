@@ -10,10 +10,8 @@ use lib.Dec.{eqb, ltb}
 use lib.ListN.{length}
 use Rattle.base.proofs.Decide.{if-so}
 use Rattle.dock.proofs.TestLaws.{Limits, PlaceFits, FirstFits, by-fits, by-fits-with}
-use Rattle.dock.specs.Limits.{recordsSize}
+use Rattle.sizes.specs.Sizes.{recordsSize, packetCount, control, bulk, interrupt, isoch}
 use Rattle.base.specs.First.{pick}
-use Rattle.packets.specs.Packets.{packetCount}
-use Rattle.records.specs.Records.{control, bulk, interrupt, isoch}
 use Rattle.records.specs.declared.Record.{Record}
 use Rattle.dock.specs.Fit.{fits, theLink, theTrb, theFirst, none, nextOf, strays, fitsWith}
 use Rattle.dock.specs.Stores.{trbCount, deferred}
@@ -66,9 +64,9 @@ pick-le false x y n p q = q
 pub count-most : (v : Record) → trbCount v ≤ packetCount
 unfolding trbCount
 count-most v =
-    pick-le (eqb (v .kind) control) _ _ 64 (pick-le (eqb (v .length) 0) 2 3 64 (omega arith) (omega arith))
-    (pick-le (eqb (v .kind) isoch) _ _ 64 (omega arith)
-    (pick-le (eqb (v .kind) bulk) _ _ 64 (omega arith) (pick-le (eqb (v .kind) interrupt) 1 0 64 (omega arith) (omega arith))))
+    pick-le (eqb (v .kind) control) _ _ packetCount (pick-le (eqb (v .length) 0) 2 3 packetCount (omega arith) (omega arith))
+    (pick-le (eqb (v .kind) isoch) _ _ packetCount (omega arith)
+    (pick-le (eqb (v .kind) bulk) _ _ packetCount (omega arith) (pick-le (eqb (v .kind) interrupt) 1 0 packetCount (omega arith) (omega arith))))
 
 second : (a b c : Bool) → pick a theLink (pick b theTrb (pick c theFirst none)) ≡ theTrb → b ≡ true
 second true b c e = let z : _≡_ {A = ℕ} 0 1 = cc in absurd (omega arith)

@@ -10,7 +10,7 @@ use Rattle.base.proofs.Chosen.{quiet}
 use Rattle.checks.proofs.Laws.{fit, fit-with}
 use Rattle.dock.specs.Configure.{plainTests, plainNo}
 use Rattle.dock.specs.Fit.{fits, fitsWith}
-use Rattle.dock.specs.Limits.{recordsSize}
+use Rattle.sizes.specs.Sizes.{trbBytes, recordsSize}
 use Rattle.dock.specs.Reset.{beginTests, beginNo}
 use Rattle.dock.specs.Retire.{recordTests, recordNo}
 use Rattle.dock.specs.declared.Endpoint.{Endpoint}
@@ -31,5 +31,5 @@ pub record-size : (e : Endpoint) (records : List ℕ) → recordNo e records ≡
 record-size e records passed = fit-with e records (record-fits e records passed) .size
 
 -- The place of an endpoint that fits has an address.
-pub place-address : (e : Endpoint) → fits e ≡ true → e .shape .base + 16 * e .at .place < 2 ^ 64
+pub place-address : (e : Endpoint) → fits e ≡ true → e .shape .base + trbBytes * e .at .place < 2 ^ 64
 place-address e t = let f = fit e t in let l = f .limits in let p = f .places in omega (arith, l .base-room, p .here)

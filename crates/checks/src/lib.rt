@@ -6,7 +6,7 @@ ghost use mathlib.Core.Bool.{not, _&&_};
 ghost use Prim.Native.Nat.{_*_, _≤_, _<_};
 ghost use lib.Dec.{leb};
 ghost use lib.ListN.{length};
-ghost use Rattle.dock.specs.Limits.{recordsSize};
+ghost use Rattle.sizes.specs.Sizes.{recordsSize, packetCount};
 ghost use Rattle.dock.specs.Stores.{trbCount, deferred, chained};
 ghost use Rattle.dock.specs.Fit.{placesFit, fits, nextOf, isNone, strays, fitsWith};
 ghost use Rattle.dock.specs.Configure.{plainNo};
@@ -14,20 +14,6 @@ ghost use Rattle.dock.specs.Retire.{recordNo};
 ghost use Rattle.checks.specs.Step.{named};
 use dock::Endpoint;
 use records::Record;
-
-// The kinds of a request, as a record has them.
-pub const CONTROL: u64 = 0;
-
-pub const BULK: u64 = 1;
-
-pub const INTERRUPT: u64 = 2;
-
-pub const ISOCH: u64 = 3;
-
-// The words of the tables of records and of packets.
-pub const RECORDS_SIZE: usize = ids::RECORD_COUNT * ids::RECORD_WORDS;
-
-pub const PACKETS_SIZE: usize = ids::RECORD_COUNT * packets::PACKETS;
 
 pub fn places_fit(e: Endpoint) -> bool
     ensures { λ r. ⌜ r ≡ placesFit e ⌝ }
@@ -53,24 +39,24 @@ pub fn fits(e: Endpoint) -> bool
 
 // How many TRBs a record's request has.
 pub fn trb_count(v: Record) -> u64
-    ensures { λ r. ⌜ (r ≡ trbCount v) × (r ≤ 64) ⌝ }
+    ensures { λ r. ⌜ (r ≡ trbCount v) × (r ≤ packetCount) ⌝ }
 {
-    if v.kind == CONTROL {
+    if v.kind == sizes::CONTROL {
         if v.length == 0 {
             return 2;
         }
         return 3;
     }
-    if v.kind == ISOCH {
-        if v.count < 64 {
+    if v.kind == sizes::ISOCH {
+        if v.count < sizes::PACKET_COUNT as u64 {
             return v.count;
         }
-        return 64;
+        return sizes::PACKET_COUNT as u64;
     }
-    if v.kind == BULK {
+    if v.kind == sizes::BULK {
         return 1;
     }
-    if v.kind == INTERRUPT {
+    if v.kind == sizes::INTERRUPT {
         return 1;
     }
     0
@@ -81,7 +67,7 @@ pub fn trb_count(v: Record) -> u64
 pub fn is_deferred(v: Record) -> bool
     ensures { λ r. ⌜ r ≡ deferred v ⌝ }
 {
-    v.kind == CONTROL
+    v.kind == sizes::CONTROL
 }
 
 // Whether the link is chained, should a TD's stores come to L-1: no TRB of a request is chained to the next.
@@ -146,7 +132,7 @@ pub fn strays(e: Endpoint, records: &[u64]) -> bool
         return false;
     }
     let number = e.work.number;
-    if ids::RECORD_COUNT <= number {
+    if sizes::RECORD_COUNT <= number {
         return true;
     }
     if !mask::is_held(e.account.occupancy, number) {
@@ -166,7 +152,7 @@ pub fn fits_with(e: Endpoint, records: &[u64]) -> bool
     if !fits(e) {
         return false;
     }
-    if records.len() != RECORDS_SIZE {
+    if records.len() != sizes::RECORDS_SIZE {
         return false;
     }
     !strays(e, records)

@@ -4,9 +4,8 @@ ghost use mathlib.Core.Bool.{not, _&&_, _||_};
 ghost use Prim.Native.Nat.{_-_, _<_};
 ghost use lib.Dec.{ltb, eqb};
 ghost use Rattle.base.specs.First.{first};
-ghost use Rattle.ids.specs.Free.{recordCount};
+ghost use Rattle.sizes.specs.Sizes.{recordCount};
 ghost use Rattle.dock.specs.Reclaim.{leave, mismatched, completeTests, completion, completeAnswer, complete, nothing};
-use checks::ISOCH;
 use dock::Account;
 use dock::Completion;
 use dock::Endpoint;
@@ -14,6 +13,7 @@ use dock::Flags;
 use dock::Reclaimed;
 use dock::ReclaimedOne;
 use records::Record;
+use sizes::ISOCH;
 
 // A length less what remains, or a count less another: the difference, not below 0.
 pub fn less(a: u64, b: u64) -> u64

@@ -6,7 +6,7 @@
 ghost use mathlib.Core.Path.{_≡_};
 ghost use Prim.Native.Nat.{_*_};
 ghost use lib.ListN.{length};
-ghost use Rattle.ids.specs.Free.{recordCount, recordWords};
+ghost use Rattle.sizes.specs.Sizes.{recordCount, recordWords};
 ghost use Rattle.ids.specs.Lookup.{findIn};
 ghost use Rattle.dock.specs.Cancel.{marked, cancel};
 ghost use Rattle.dock.specs.HandOver.{handOver};

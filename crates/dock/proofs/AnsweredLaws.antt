@@ -13,7 +13,7 @@ use Rattle.dock.specs.declared.ResetBegun.{ResetBegun}
 use Rattle.dock.specs.declared.StoredAll.{StoredAll}
 use Rattle.dock.specs.declared.StoredOne.{StoredOne}
 use Rattle.dock.specs.declared.Taken.{Taken}
-use Rattle.dock.specs.Limits.{ringSize}
+use Rattle.sizes.specs.Sizes.{ringSize}
 use Rattle.dock.specs.Configure.{plainNo}
 use Rattle.dock.specs.Start.{startNo}
 use Rattle.dock.specs.Store.{storeNo}

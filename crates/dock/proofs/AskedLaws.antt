@@ -10,13 +10,12 @@ use lib.ListN.{length, getD}
 use lib.Seq.{length-paste}
 use Rattle.base.proofs.Compare.{lt-or-le, compared}
 use Rattle.base.proofs.Pasted.{pasted-same, pasted-before, pasted-behind}
-use Rattle.ids.specs.Free.{recordCount}
-use Rattle.packets.specs.Packets.{packetCount, packetIndex, packetOf, packetWord, packetAt}
+use Rattle.sizes.specs.Sizes.{recordCount, packetCount, packetsSize, longest}
+use Rattle.packets.specs.Packets.{packetIndex, packetOf, packetWord, packetAt}
 use Rattle.packets.specs.declared.Packet.{Packet}
 use Rattle.packets.proofs.PacketLaws.{packet-reads}
 use Rattle.dock.specs.declared.What.{What}
 use Rattle.dock.specs.declared.What.the-variants.{Control, Bulk, Interrupt, Isoch}
-use Rattle.dock.specs.Limits.{packetsSize}
 use Rattle.dock.specs.Start.{tooLong, atLeastOne, writePackets}
 use Rattle.dock.proofs.TestLaws.{by-too-long-isoch}
 
@@ -37,18 +36,18 @@ module _ (incoming : Bool) (size : ℕ) (lengths : List ℕ) (short : tooLong (I
   pub few-packets : length lengths ≤ 64
   few-packets =
       ⊎-elim
-      (λ (h : 64 < length lengths). absurd (by-too-long-isoch incoming size lengths .not-so short (inl (inl h))))
+      (λ (h : packetCount < length lengths). absurd (by-too-long-isoch incoming size lengths .not-so short (inl (inl h))))
       (λ (h : length lengths ≤ 64). h)
       (lt-or-le 64 (length lengths))
 
-  pub packet-short : (k : ℕ) → k < length lengths → getD lengths k 0 ≤ 65536
+  pub packet-short : (k : ℕ) → k < length lengths → getD lengths k 0 ≤ longest
   packet-short k l =
       ⊎-elim
-      (λ (h : 65536 < getD lengths k 0). absurd (by-too-long-isoch incoming size lengths .not-so short (inl (inr (k, l, h)))))
-      (λ (h : getD lengths k 0 ≤ 65536). h)
-      (lt-or-le 65536 (getD lengths k 0))
+      (λ (h : longest < getD lengths k 0). absurd (by-too-long-isoch incoming size lengths .not-so short (inl (inr (k, l, h)))))
+      (λ (h : getD lengths k 0 ≤ longest). h)
+      (lt-or-le longest (getD lengths k 0))
 
-pub one-short : (ns : List ℕ) (k : ℕ) → ((j : ℕ) → j < length ns → getD ns j 0 ≤ 65536) → k < length (atLeastOne ns) → getD (atLeastOne ns) k 0 ≤ 65536
+pub one-short : (ns : List ℕ) (k : ℕ) → ((j : ℕ) → j < length ns → getD ns j 0 ≤ longest) → k < length (atLeastOne ns) → getD (atLeastOne ns) k 0 ≤ longest
 one-short [] zero short l = omega arith
 one-short [] (suc k) short l = absurd (omega arith)
 one-short (n ∷ ns) k short l = short k l

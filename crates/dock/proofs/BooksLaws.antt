@@ -20,7 +20,8 @@ use Rattle.mask.specs.Occupancy as masks
 use Rattle.mask.specs.declared.Occupancy.{Occupancy}
 use Rattle.mask.proofs.SumLaws.{sum-same, sum-change}
 use Rattle.mask.proofs.OccupancyLaws.{taken-is, taken-sized, freed-is, freed-sized}
-use Rattle.ids.specs.Free.{recordCount, recordWords, idAt, freeIn}
+use Rattle.sizes.specs.Sizes.{recordCount, recordWords, recordsSize}
+use Rattle.ids.specs.Free.{idAt, freeIn}
 use Rattle.ids.specs.Order.{afterId, afterN}
 use Rattle.ids.proofs.AnyLaws.{never-both, after-last, after-more}
 use Rattle.ids.proofs.SearchLaws.{answer-other, answer-first}
@@ -28,7 +29,6 @@ use Rattle.records.specs.Records.{inFlight, stopped, recordAt, recordList, setW
 use Rattle.records.specs.declared.Record.{Record}
 use Rattle.records.proofs.RecordLaws.{id-is, record-put, record-other, set-length}
 use Rattle.dock.specs.declared.Account.{Account}
-use Rattle.dock.specs.Limits.{recordsSize}
 use Rattle.dock.specs.Fit.{flies}
 use Rattle.dock.specs.Reclaim.{freed}
 use Rattle.dock.specs.Start.{charged}

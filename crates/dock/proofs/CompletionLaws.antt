@@ -11,13 +11,13 @@ use lib.Dec.{eqb}
 use lib.ListN.{length}
 use Rattle.base.specs.First.{first}
 use Rattle.mask.specs.Bit.{sum}
-use Rattle.ids.specs.Free.{recordCount}
+use Rattle.sizes.specs.Sizes.{recordCount, recordsSize, packetCount}
 use Rattle.ids.proofs.AnyLaws.{true-or-false}
 use Rattle.trb.specs.declared.Words.{Words}
 use Rattle.finished.specs.Finished.{finishedAt}
 use Rattle.finished.specs.declared.Finished.{Finished}
 use Rattle.finished.specs.declared.Finished.the-variants as place
-use Rattle.packets.specs.Packets.{packetCount, packetAt}
+use Rattle.packets.specs.Packets.{packetAt}
 use Rattle.records.specs.Records.{recordAt}
 use Rattle.records.specs.declared.Record.{Record}
 use Rattle.dock.specs.declared.Completion.{Completion}
@@ -25,7 +25,6 @@ use Rattle.dock.specs.declared.Endpoint.{Endpoint}
 use Rattle.dock.specs.declared.Reclaimed.{Reclaimed}
 use Rattle.dock.specs.declared.Reclaimed.the-variants as answer
 use Rattle.dock.specs.declared.ReclaimedOne.{ReclaimedOne}
-use Rattle.dock.specs.Limits.{recordsSize}
 use Rattle.dock.specs.Worth.{bytes, refused, worth, counts, accepted, movedBytes}
 use Rattle.dock.specs.Reclaim.{leave, mismatched, completeTests, completion, completeAnswer, complete, codeOf, remainingOf, bulkBy, reclaimBulk, Seen, onward, ends, stageBy, statusBy, recordedLength, recordedBy, statusPlace, dataSeen, afterStage, reclaimControl, total, Swept, unfinished, fatal, found, sweep, sweptAnswer, reclaimIso}
 use Rattle.dock.proofs.RetireLaws.{picked}

@@ -16,7 +16,8 @@ use Rattle.base.proofs.Chosen.{quiet}
 use Rattle.base.proofs.Compare.{lt-or-le}
 use Rattle.base.proofs.Decide.{both, by-eqb}
 use Rattle.mask.specs.Occupancy.{held}
-use Rattle.ids.specs.Free.{recordCount, idAt, heldBy}
+use Rattle.sizes.specs.Sizes.{ringSize, recordCount, packetCount, packetsSize, isoch}
+use Rattle.ids.specs.Free.{idAt, heldBy}
 use Rattle.ids.specs.Lookup.{Finds, findIn}
 use Rattle.ids.specs.declared.Lookup.{Lookup}
 use Rattle.ids.specs.declared.Lookup.the-variants.{At}
@@ -25,15 +26,14 @@ use Rattle.trb.specs.declared.Words.{Words}
 use Rattle.finished.specs.Finished.{finishedAt}
 use Rattle.finished.specs.declared.Finished.{Finished}
 use Rattle.finished.specs.declared.Finished.the-variants as place
-use Rattle.packets.specs.Packets.{packetCount, packetAt}
-use Rattle.records.specs.Records.{isoch, inFlight, recordAt}
+use Rattle.packets.specs.Packets.{packetAt}
+use Rattle.records.specs.Records.{inFlight, recordAt}
 use Rattle.packets.specs.declared.Packet.{Packet}
 use Rattle.records.specs.declared.Record.{Record}
 use Rattle.dock.specs.declared.Completion.{Completion}
 use Rattle.dock.specs.declared.Endpoint.{Endpoint}
 use Rattle.dock.specs.declared.Reclaimed.the-variants as answer
 use Rattle.dock.specs.declared.ReclaimedOne.{ReclaimedOne}
-use Rattle.dock.specs.Limits.{ringSize, packetsSize}
 use Rattle.dock.specs.Worth.{Worth, bytes, refused, counts, worth}
 use Rattle.dock.specs.Residual.{Told, Tells, Writes, credit}
 use Rattle.dock.specs.Reclaim.{codeOf, remainingOf, placeOf, counted, Swept, unfinished, fatal, found, sweep, sweptAnswer, reclaimIso, badRecord, reclaimTests, reclaimNo, reclaimFlying, reclaimFound, reclaim}

@@ -7,7 +7,7 @@ use mathlib.Core.Path.{_≡_, refl, _∙_}
 use native.Mathlib.Omega.{arith}
 use lib.Dec.{eqb}
 use lib.ListN.{length, getD}
-use Rattle.ids.specs.Free.{recordCount}
+use Rattle.sizes.specs.Sizes.{recordCount, isoch}
 use Rattle.ids.specs.Lookup.{findIn}
 use Rattle.ids.specs.declared.Lookup.the-variants.{At}
 use Rattle.event.specs.Event.{eventOf}
@@ -16,7 +16,7 @@ use Rattle.finished.specs.Finished.{finishedAt, fillPlace}
 use Rattle.finished.specs.declared.Finished.{Finished}
 use Rattle.finished.specs.declared.Finished.the-variants as place
 use Rattle.packets.specs.Packets.{packetAt}
-use Rattle.records.specs.Records.{isoch, inFlight, recordAt}
+use Rattle.records.specs.Records.{inFlight, recordAt}
 use Rattle.packets.specs.declared.Packet.{Packet}
 use Rattle.records.specs.declared.Record.{Record}
 use Rattle.finished.proofs.FinishedLaws.{others-kept}

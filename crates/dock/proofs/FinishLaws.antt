@@ -21,7 +21,7 @@ use Rattle.dock.specs.declared.StoredAll.{StoredAll}
 use Rattle.dock.specs.declared.StoredOne.{StoredOne}
 use Rattle.dock.specs.declared.Submitted.the-variants as submitted
 use Rattle.dock.specs.Fit.{Next, theLink, theTrb, theFirst, none, nextOf, isNone}
-use Rattle.dock.specs.Limits.{ringSize}
+use Rattle.sizes.specs.Sizes.{ringSize}
 use Rattle.dock.specs.Requests.{required}
 use Rattle.dock.specs.Start.{startNo, startedEndpoint, startedRecords, recordTaken, idTaken, charged, writePackets}
 use Rattle.dock.specs.State.{idle}

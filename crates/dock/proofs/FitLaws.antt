@@ -18,7 +18,8 @@ use Rattle.base.proofs.Decide.{Decides, both, if-so, by-leb, by-ltb}
 use Rattle.mask.specs.Occupancy.{held}
 use Rattle.mask.specs.Occupancy as masks
 use Rattle.mask.proofs.OccupancyLaws.{none-free, taken-is}
-use Rattle.ids.specs.Free.{recordCount, recordWords, idAt, heldBy}
+use Rattle.sizes.specs.Sizes.{fewestSlots, recordCount, recordWords, packetCount, isoch}
+use Rattle.ids.specs.Free.{idAt, heldBy}
 use Rattle.ids.specs.Lookup.{findIn, Finds}
 use Rattle.ids.specs.declared.Lookup.{Lookup}
 use Rattle.ids.specs.declared.Lookup.the-variants as lookup
@@ -26,8 +27,7 @@ use Rattle.ids.proofs.LookupLaws.{find-finds}
 use Rattle.trb.specs.declared.Words.{Words}
 use Rattle.records.proofs.RecordLaws.{record-put, record-other}
 use Rattle.ids.proofs.AnyLaws.{true-or-false, never-both, by-held}
-use Rattle.packets.specs.Packets.{packetCount}
-use Rattle.records.specs.Records.{isoch, inFlight, recordAt, setWord}
+use Rattle.records.specs.Records.{inFlight, recordAt, setWord}
 use Rattle.records.specs.declared.Record.{Record}
 use Rattle.dock.specs.declared.Changed.{Changed}
 use Rattle.dock.specs.declared.Endpoint.{Endpoint}
@@ -206,7 +206,7 @@ record Stepping (v : Record) (after : Endpoint) : Type 0 where
   left : (after .work .stored ≤ trbCount v) ⊎ (isNone (nextOf after v) ≡ true)
 
 module _ (e : Endpoint) (v : Record) (packets : List ℕ) (p : placesFit e ≡ true) (b : e .work .busy ≡ true) (few : e .work .stored ≤ trbCount v)
-    (slots : 3 ≤ e .shape .slots) where
+    (slots : fewestSlots ≤ e .shape .slots) where
   before-last : (e .at .place + 1 ≡ e .shape .slots → ⊥) → e .at .place + 1 < e .shape .slots
   before-last d = ⊎-elim (λ (z : e .at .place + 1 ≡ e .shape .slots). absurd (d z)) (λ (z : e .at .place + 1 < e .shape .slots). z) (eq-or-lt-of-le (place-slot e p))
 
@@ -264,7 +264,7 @@ pub record Placed (s : State) : Type 0 where
       → (recordAt (s .records) r .place + 1 < s .endpoint .shape .slots) × (recordAt (s .records) r .count ≤ packetCount) × Measured (recordAt (s .records) r)
 
 -- Making.
-fresh-placed : (shape : Shape) (who : Identity) (ring finished records packets : List ℕ) → 3 ≤ shape .slots
+fresh-placed : (shape : Shape) (who : Identity) (ring finished records packets : List ℕ) → fewestSlots ≤ shape .slots
     → Placed (stateOf (fresh shape who) ring finished records packets)
 fresh-placed shape who ring finished records packets some = record {
   placing = places-true (fresh shape who) (omega arith) (λ (q : 0 + 1 ≡ shape .slots). absurd (omega arith)) (λ b. absurd (never-both b refl));

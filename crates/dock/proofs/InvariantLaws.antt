@@ -18,7 +18,8 @@ use Rattle.mask.specs.declared.Found.{Found}
 use Rattle.mask.specs.declared.Found.the-variants as place
 use Rattle.mask.specs.declared.Occupancy.{Occupancy}
 use Rattle.mask.proofs.OccupancyLaws.{none-free, none-sized, lowest-tells}
-use Rattle.ids.specs.Free.{recordCount, idAt, heldBy}
+use Rattle.sizes.specs.Sizes.{fewestSlots, mostSlots, ringSize, recordCount, recordsSize, packetCount, packetsSize, isoch}
+use Rattle.ids.specs.Free.{idAt, heldBy}
 use Rattle.ids.specs.Lookup.{findIn, Lowest, Finds}
 use Rattle.ids.specs.declared.Lookup.{Lookup}
 use Rattle.ids.specs.declared.Lookup.the-variants as lookup
@@ -32,8 +33,7 @@ use Rattle.ring.specs.declared.Slot.{Slot}
 use Rattle.ring.specs.declared.Slot.the-variants as slot
 use Rattle.ring.proofs.RuleLaws.{store-length}
 use Rattle.finished.specs.Finished.{fillPlace}
-use Rattle.packets.specs.Packets.{packetCount}
-use Rattle.records.specs.Records.{isoch, inFlight, stopped, cancelledWord, recordAt}
+use Rattle.records.specs.Records.{inFlight, stopped, cancelledWord, recordAt}
 use Rattle.records.specs.declared.Record.{Record}
 use Rattle.event.specs.Event.{eventOf}
 use Rattle.dock.specs.declared.Changed.{Changed}
@@ -49,7 +49,7 @@ use Rattle.dock.specs.declared.What.the-variants.{Control, Bulk, Interru
 use Rattle.dock.specs.declared.ResetBegun.{ResetBegun}
 use Rattle.dock.specs.declared.StoredOne.{StoredOne}
 use Rattle.dock.specs.declared.Taken.{Taken}
-use Rattle.dock.specs.Limits.{limitsHold, ringSize, recordsSize, packetsSize}
+use Rattle.dock.specs.Limits.{limitsHold}
 use Rattle.dock.specs.State.{fresh, idle, moved}
 use Rattle.dock.specs.Fit.{placesFit, fits, fitsWith, strays, Next, theLink, theTrb, theFirst, none, nextOf, isNone}
 use Rattle.dock.specs.Make.{sized, makeTests, makeNo, make, zeros}
@@ -390,7 +390,7 @@ pub slots-some : (s : State) → Sound s → 3 ≤ s .endpoint .shape .slots
 unfolding limitsHold
 slots-some s h =
     let slots = s .endpoint .shape .slots in
-    both (both (both (by-leb 3 slots) (by-leb slots 4096)) (by-true _)) (by-true _) .so (h .limits) .0 .0 .0
+    both (both (both (by-leb fewestSlots slots) (by-leb slots mostSlots)) (by-true _)) (by-true _) .so (h .limits) .0 .0 .0
 
 hand-sound : (s : State) (event : Words) → Sound s → Sound (after s (hands event))
 unfolding handOver slotFor

@@ -10,14 +10,14 @@ use lib.Dec.{eqb}
 use lib.ListN.{length}
 use Rattle.base.proofs.Decide.{if-so}
 use Rattle.mask.specs.Bit.{sum}
-use Rattle.ids.specs.Free.{recordCount}
+use Rattle.sizes.specs.Sizes.{recordCount, control, bulk, interrupt, isoch}
 use Rattle.ids.specs.declared.Lookup.{Lookup}
 use Rattle.ids.specs.declared.Lookup.the-variants as lookup
 use Rattle.finished.specs.Finished.{finishedAt}
 use Rattle.finished.specs.declared.Finished.{Finished}
 use Rattle.finished.specs.declared.Finished.the-variants as place
 use Rattle.packets.specs.Packets.{packetAt}
-use Rattle.records.specs.Records.{control, bulk, interrupt, isoch, inFlight, stopped, recordAt}
+use Rattle.records.specs.Records.{inFlight, stopped, recordAt}
 use Rattle.records.specs.declared.Record.{Record}
 use Rattle.records.proofs.RecordLaws.{id-is}
 use Rattle.dock.specs.declared.Completion.{Completion}

@@ -19,8 +19,9 @@ use Rattle.trb.specs.declared.Words.{Words}
 use Rattle.finished.specs.Finished.{finishedAt}
 use Rattle.finished.specs.declared.Finished.{Finished}
 use Rattle.finished.specs.declared.Finished.the-variants as place
-use Rattle.packets.specs.Packets.{packetCount, packetAt, putPacket}
-use Rattle.records.specs.Records.{control, bulk, interrupt, isoch, inFlight, stopped, recordAt}
+use Rattle.sizes.specs.Sizes.{packetCount, control, bulk, interrupt, isoch}
+use Rattle.packets.specs.Packets.{packetAt, putPacket}
+use Rattle.records.specs.Records.{inFlight, stopped, recordAt}
 use Rattle.packets.specs.declared.Packet.{Packet}
 use Rattle.records.specs.declared.Record.{Record}
 use Rattle.packets.proofs.PacketLaws.{packet-other}

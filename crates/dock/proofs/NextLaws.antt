@@ -13,7 +13,7 @@ use Rattle.base.proofs.Decide.{Decides, by-eqb, by-true, both, if-so, if-not}
 use Rattle.records.specs.declared.Record.{Record}
 use Rattle.dock.specs.declared.Endpoint.{Endpoint}
 use Rattle.dock.specs.Fit.{fitsWith, Next, theLink, theTrb, theFirst, none, nextOf}
-use Rattle.dock.specs.Limits.{ringSize, recordsSize, packetsSize}
+use Rattle.sizes.specs.Sizes.{ringSize, recordsSize, packetsSize}
 use Rattle.dock.specs.Store.{storeTests, storeNo}
 use Rattle.dock.specs.Stores.{trbCount, deferred}
 use Rattle.dock.proofs.RefusalLaws.{store-exact}

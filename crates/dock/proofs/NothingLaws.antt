@@ -16,7 +16,8 @@ use Rattle.ids.specs.declared.Lookup.the-variants.{At, Nothing}
 use Rattle.finished.specs.Finished.{finishedAt}
 use Rattle.finished.specs.declared.Finished.{Finished}
 use Rattle.finished.specs.declared.Finished.the-variants as place
-use Rattle.records.specs.Records.{control, bulk, interrupt, isoch, inFlight, stopped, recordedWord, recordAt, setWord}
+use Rattle.sizes.specs.Sizes.{control, bulk, interrupt, isoch}
+use Rattle.records.specs.Records.{inFlight, stopped, recordedWord, recordAt, setWord}
 use Rattle.records.specs.declared.Record.{Record}
 use Rattle.dock.specs.declared.Completion.{Completion}
 use Rattle.dock.specs.declared.Endpoint.{Endpoint}

@@ -14,20 +14,20 @@ use Rattle.base.proofs.Compare.{same-or-not}
 use Rattle.base.proofs.Decide.{both, if-so, if-not, by-eqb}
 use Rattle.mask.specs.Occupancy.{held}
 use Rattle.mask.specs.Occupancy as masks
-use Rattle.ids.specs.Free.{recordCount, recordWords, idAt, heldBy}
+use Rattle.sizes.specs.Sizes.{ringSize, recordCount, recordWords, recordsSize, packetCount, packetsSize}
+use Rattle.ids.specs.Free.{idAt, heldBy}
 use Rattle.ids.specs.Lookup.{findIn}
 use Rattle.ids.specs.declared.Lookup.{Lookup}
 use Rattle.ids.specs.declared.Lookup.the-variants as lookup
 use Rattle.ids.proofs.AnyLaws.{never-both, by-held}
 use Rattle.ids.proofs.LookupLaws.{find-computed, find-new}
-use Rattle.packets.specs.Packets.{packetCount, packetAt}
+use Rattle.packets.specs.Packets.{packetAt}
 use Rattle.records.specs.Records.{inFlight, stopped, wordAt, recordAt}
 use Rattle.dock.specs.declared.Changed.{Changed}
 use Rattle.dock.specs.declared.Endpoint.{Endpoint}
 use Rattle.dock.specs.declared.Outcome.the-variants.{Done, Refused}
 use Rattle.dock.specs.declared.Reclaimed.the-variants as answer
 use Rattle.dock.specs.declared.ReclaimedOne.{ReclaimedOne}
-use Rattle.dock.specs.Limits.{ringSize, recordsSize, packetsSize}
 use Rattle.dock.specs.Fit.{placesFit, fits, strays, fitsWith}
 use Rattle.dock.specs.State.{withAccount}
 use Rattle.dock.specs.Start.{idTaken}

@@ -9,10 +9,11 @@ use Rattle.base.specs.First.{pick}
 use Rattle.mask.specs.Bit.{sum}
 use Rattle.mask.specs.Occupancy.{held, Sized}
 use Rattle.mask.specs.declared.Occupancy.{Occupancy}
-use Rattle.ids.specs.Free.{recordCount, idAt}
+use Rattle.sizes.specs.Sizes.{ringSize, recordCount, recordsSize, packetsSize}
+use Rattle.ids.specs.Free.{idAt}
 use Rattle.records.specs.Records.{inFlight, stopped, recordAt}
 use Rattle.dock.specs.declared.Account.{Account}
-use Rattle.dock.specs.Limits.{limitsHold, ringSize, recordsSize, packetsSize}
+use Rattle.dock.specs.Limits.{limitsHold}
 use Rattle.dock.specs.Fit.{flies}
 use Rattle.dock.specs.Run.{State, Made, Call, after, Reached, made, next}
 

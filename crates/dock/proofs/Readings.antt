@@ -26,7 +26,8 @@ use Rattle.dock.specs.declared.Endpoint.{Endpoint}
 use Rattle.dock.specs.declared.Request.{Request}
 use Rattle.dock.specs.declared.What.{What}
 use Rattle.dock.specs.declared.What.the-variants.{Control, Bulk, Isoch}
-use Rattle.dock.specs.Limits.{limitsHold, recordsSize, packetsSize}
+use Rattle.sizes.specs.Sizes.{recordsSize, packetsSize}
+use Rattle.dock.specs.Limits.{limitsHold}
 use Rattle.dock.specs.Fit.{fits, placesFit, strays, fitsWith, nextOf}
 use Rattle.dock.specs.State.{fresh, withAccount, moved, idle}
 use Rattle.dock.specs.Requests.{required}

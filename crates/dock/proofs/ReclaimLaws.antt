@@ -12,13 +12,13 @@ use lib.Seq.{getD-set-same, getD-set-other}
 use lib.ListN.{length, length-set}
 use Rattle.base.specs.First.{first}
 use Rattle.base.proofs.Compare.{same-or-not}
-use Rattle.ids.specs.Free.{recordWords, recordCount}
+use Rattle.sizes.specs.Sizes.{recordCount, recordWords, recordsSize, packetCount, control, bulk, interrupt, isoch}
 use Rattle.finished.specs.Finished.{finishedAt}
 use Rattle.finished.specs.declared.Finished.{Finished}
 use Rattle.finished.specs.declared.Finished.the-variants as place
-use Rattle.records.specs.Records.{control, bulk, interrupt, isoch, recordedWord, wordAt, recordAt, setWord}
+use Rattle.records.specs.Records.{recordedWord, wordAt, recordAt, setWord}
 use Rattle.records.specs.declared.Record.{Record}
-use Rattle.packets.specs.Packets.{packetCount, packetAt, putPacket}
+use Rattle.packets.specs.Packets.{packetAt, putPacket}
 use Rattle.packets.specs.declared.Packet.{Packet}
 use Rattle.packets.proofs.PacketLaws.{packet-other}
 use Rattle.records.proofs.RecordLaws.{word-kept}
@@ -26,7 +26,6 @@ use Rattle.dock.specs.declared.Endpoint.{Endpoint}
 use Rattle.dock.specs.declared.Reclaimed.{Reclaimed}
 use Rattle.dock.specs.declared.Reclaimed.the-variants as answer
 use Rattle.dock.specs.declared.ReclaimedOne.{ReclaimedOne}
-use Rattle.dock.specs.Limits.{recordsSize}
 use Rattle.dock.specs.Worth.{Worth, bytes, refused, worth, accepted}
 use Rattle.dock.specs.Reclaim.{leave, completeTests, completeAnswer, complete, nothing, codeOf, remainingOf, bulkBy, reclaimBulk, Seen, onward, ends, stageBy, statusBy, recordedBy, statusPlace, dataSeen, afterStage, recordsAfter, reclaimControl, counted, closeBelow, Swept, unfinished, fatal, found, sweptBy, sweptAt, sweep, sweptAnswer, reclaimIso, reclaimFlying, placeOf}
 use Rattle.dock.proofs.BooksLaws.{Alike, alike-same, alike-set}

@@ -9,7 +9,7 @@ use lib.ListN.{length}
 use Rattle.base.specs.First.{pick}
 use Rattle.base.proofs.Chosen.{Exact, exact, acts, declines}
 use Rattle.trb.specs.declared.Words.{Words}
-use Rattle.ids.specs.Free.{recordCount}
+use Rattle.sizes.specs.Sizes.{ringSize, recordCount}
 use Rattle.ids.specs.Lookup.{findIn}
 use Rattle.ring.specs.Ring.{enqueuePointer}
 use Rattle.finished.specs.Finished.{fillPlace}
@@ -31,7 +31,6 @@ use Rattle.dock.specs.Commands.{resetWords, stopWords, dequeueWords, sto
 use Rattle.dock.specs.Configure.{plainTests, plainNo, configure}
 use Rattle.dock.specs.Fit.{nextOf}
 use Rattle.dock.specs.HandOver.{handOverTests, handOverNo, handOver, slotNumber, slotFor}
-use Rattle.dock.specs.Limits.{ringSize}
 use Rattle.dock.specs.Make.{makeTests, makeNo, make, zeros}
 use Rattle.dock.specs.Reclaim.{reclaimTests, reclaimNo, reclaim, reclaimFound}
 use Rattle.dock.specs.Reset.{beginTests, beginNo, beginReset, endTests, endNo, endReset}

@@ -11,15 +11,15 @@ use lib.Dec.{eqb}
 use lib.ListN.{length, getD, replicate}
 use Rattle.base.specs.First.{pick}
 use Rattle.base.proofs.Compare.{same-or-not, lt-or-le}
-use Rattle.ids.specs.Free.{recordCount}
+use Rattle.sizes.specs.Sizes.{recordCount, packetCount, packetsSize, longest, control, bulk, interrupt, isoch}
 use Rattle.ids.specs.Lookup.{findIn}
 use Rattle.ids.specs.declared.Lookup.{Lookup}
 use Rattle.ids.specs.declared.Lookup.the-variants.{At, Nothing}
 use Rattle.finished.specs.Finished.{finishedAt}
 use Rattle.finished.specs.declared.Finished.{Finished}
 use Rattle.finished.specs.declared.Finished.the-variants as place
-use Rattle.packets.specs.Packets.{packetCount, packetIndex, packetAt}
-use Rattle.records.specs.Records.{control, bulk, interrupt, isoch, inFlight, stopped, recordAt}
+use Rattle.packets.specs.Packets.{packetIndex, packetAt}
+use Rattle.records.specs.Records.{inFlight, stopped, recordAt}
 use Rattle.packets.specs.declared.Packet.{Packet}
 use Rattle.dock.specs.declared.Endpoint.{Endpoint}
 use Rattle.dock.specs.declared.Identity.{Identity}
@@ -30,7 +30,6 @@ use Rattle.dock.specs.declared.Request.{Request}
 use Rattle.dock.specs.declared.Shape.{Shape}
 use Rattle.dock.specs.declared.What.{What}
 use Rattle.dock.specs.declared.What.the-variants.{Control, Bulk, Interrupt, Isoch}
-use Rattle.dock.specs.Limits.{packetsSize}
 use Rattle.dock.specs.Make.{zeros, makeNo, make}
 use Rattle.dock.specs.Start.{tooLong, atLeastOne, writePackets, recordTaken, startNo, start}
 use Rattle.dock.specs.Worth.{Worth, bytes, refused, worth}
@@ -47,7 +46,7 @@ use Rattle.dock.proofs.ReclaimLaws.{iso-own}
 use Rattle.dock.proofs.RetireLaws.{picked}
 
 abbrev pub Modest : List ℕ → Type 0
-Modest packets = (r k : ℕ) → r < recordCount → k < packetCount → packetAt packets r k .requested ≤ 65536
+Modest packets = (r k : ℕ) → r < recordCount → k < packetCount → packetAt packets r k .requested ≤ longest
 
 -- ---- a reclaim
 
@@ -133,7 +132,7 @@ module _ (e : Endpoint) (finished records packets : List ℕ) (id : ℕ) where
 
 module _ (packets : List ℕ) (r : ℕ) (lengths : List ℕ) (sized : length packets ≡ packetsSize) (below : r < recordCount) (m : Modest packets) where
   iso-modest : (incoming : Bool) (size : ℕ) → tooLong (Isoch incoming) size lengths ≡ false
-      → (k : ℕ) → k < packetCount → packetAt (writePackets packets r (Isoch incoming) lengths) r k .requested ≤ 65536
+      → (k : ℕ) → k < packetCount → packetAt (writePackets packets r (Isoch incoming) lengths) r k .requested ≤ longest
   iso-modest incoming size short k small =
       ⊎-elim
       (λ (l : k < length (atLeastOne lengths)).
@@ -141,7 +140,7 @@ module _ (packets : List ℕ) (r : ℕ) (lengths : List ℕ) (sized : length pac
       (λ (l : length (atLeastOne lengths) ≤ k). rw (packet-behind packets r incoming size lengths sized below short k l) (m r k below small))
       (lt-or-le k (length (atLeastOne lengths)))
 
-  own-modest : (what : What) (size : ℕ) → tooLong what size lengths ≡ false → (k : ℕ) → k < packetCount → packetAt (writePackets packets r what lengths) r k .requested ≤ 65536
+  own-modest : (what : What) (size : ℕ) → tooLong what size lengths ≡ false → (k : ℕ) → k < packetCount → packetAt (writePackets packets r what lengths) r k .requested ≤ longest
   unfolding writePackets
   own-modest (Control type request value index) size short k small = m r k below small
   own-modest (Bulk incoming) size short k small = m r k below small

@@ -13,12 +13,12 @@ use Rattle.base.proofs.Decide.{if-so, if-not}
 use Rattle.mask.specs.Bit.{sum}
 use Rattle.mask.specs.Occupancy.{held}
 use Rattle.mask.specs.declared.Occupancy.{Occupancy}
-use Rattle.ids.specs.Free.{recordCount, recordWords, idAt}
+use Rattle.sizes.specs.Sizes.{recordCount, recordWords, recordsSize}
+use Rattle.ids.specs.Free.{idAt}
 use Rattle.ids.proofs.AnyLaws.{true-or-false, never-both}
 use Rattle.records.specs.Records.{inFlight, stopped, stateWord, recordAt, setWord}
 use Rattle.records.proofs.RecordLaws.{word-set, set-length}
 use Rattle.dock.specs.declared.Account.{Account}
-use Rattle.dock.specs.Limits.{recordsSize}
 use Rattle.dock.specs.Fit.{flies}
 use Rattle.dock.specs.Retire.{retiredBelow}
 use Rattle.dock.proofs.Reached.{flightPart, flightSum, Books}

@@ -18,7 +18,8 @@ use Rattle.dock.specs.Cancel.{cancelTests, cancelNo, notFlying}
 use Rattle.dock.specs.Configure.{plainTests, plainNo}
 use Rattle.dock.specs.Fit.{fitsWith, fits}
 use Rattle.dock.specs.HandOver.{handOverTests, handOverNo, foreign}
-use Rattle.dock.specs.Limits.{limitsHold, ringSize, packetsSize}
+use Rattle.sizes.specs.Sizes.{ringSize, packetsSize}
+use Rattle.dock.specs.Limits.{limitsHold}
 use Rattle.dock.specs.Make.{makeTests, makeNo, sized}
 use Rattle.dock.specs.Reclaim.{reclaimTests, reclaimNo, badRecord}
 use Rattle.dock.specs.Requests.{required}

@@ -14,12 +14,12 @@ use lib.Seq.{getD-set-same}
 use Rattle.base.specs.First.{pick}
 use Rattle.base.proofs.Compare.{same-or-not}
 use Rattle.base.proofs.ReadBack.{read-back, read-back-exact, flag-read}
-use Rattle.ids.specs.Free.{recordCount}
+use Rattle.sizes.specs.Sizes.{recordCount, packetCount}
 use Rattle.trb.specs.declared.Words.{Words}
 use Rattle.finished.specs.Finished.{finishedAt}
 use Rattle.finished.specs.declared.Finished.{Finished}
 use Rattle.finished.specs.declared.Finished.the-variants as place
-use Rattle.packets.specs.Packets.{packetCount, packetIndex, packetOf, packetFields, packetWord, packetAt, putPacket}
+use Rattle.packets.specs.Packets.{packetIndex, packetOf, packetFields, packetWord, packetAt, putPacket}
 use Rattle.packets.specs.declared.Packet.{Packet}
 use Rattle.records.specs.declared.Record.{Record}
 use Rattle.packets.proofs.PacketLaws.{packet-other}

@@ -17,7 +17,8 @@ use Rattle.mask.specs.declared.Found.{Found}
 use Rattle.mask.specs.declared.Found.the-variants.{At, Full}
 use Rattle.mask.specs.declared.Occupancy.{Occupancy}
 use Rattle.mask.proofs.OccupancyLaws.{taken-is, lowest-tells}
-use Rattle.ids.specs.Free.{recordCount, recordWords, isHeld, idAt}
+use Rattle.sizes.specs.Sizes.{recordCount, recordWords, packetsSize}
+use Rattle.ids.specs.Free.{isHeld, idAt}
 use Rattle.ids.specs.Order.{afterId}
 use Rattle.ids.proofs.SearchLaws.{answer-free, answer-other}
 use Rattle.records.specs.Records.{recordAt, recordList}
@@ -25,7 +26,6 @@ use Rattle.records.proofs.RecordLaws.{id-is, record-put, record-other}
 use Rattle.dock.specs.declared.Endpoint.{Endpoint}
 use Rattle.dock.specs.declared.Request.{Request}
 use Rattle.dock.specs.Fit.{fitsWith}
-use Rattle.dock.specs.Limits.{packetsSize}
 use Rattle.dock.specs.Requests.{required, recordFor}
 use Rattle.dock.specs.Start.{startTests, startNo, crowded, tooLong, isFull, beyond, numberFrom, recordTaken, idTaken, charged, begun, startedEndpoint, startedRecords}
 use Rattle.dock.proofs.RefusalLaws.{start-exact}

@@ -18,7 +18,7 @@ use Rattle.dock.specs.declared.Request.{Request}
 use Rattle.dock.specs.declared.What.{What}
 use Rattle.dock.specs.declared.What.the-variants.{Control, Bulk, Interrupt, Isoch}
 use Rattle.dock.specs.Fit.{theTrb, nextOf, isNone}
-use Rattle.dock.specs.Limits.{ringSize}
+use Rattle.sizes.specs.Sizes.{ringSize}
 use Rattle.dock.specs.Requests.{countFor, required, withWhat, recordFor}
 use Rattle.dock.specs.Start.{startNo, tooLong, recordTaken, idTaken, charged, writePackets, startedEndpoint, startedRecords}
 use Rattle.dock.specs.Stores.{trbCount}

@@ -11,7 +11,7 @@ use Rattle.dock.specs.declared.Request.{Request}
 use Rattle.dock.specs.declared.Stored.{Stored}
 use Rattle.dock.specs.declared.Stored.the-variants as store
 use Rattle.dock.specs.declared.StoredAll.{StoredAll}
-use Rattle.dock.specs.Limits.{ringSize}
+use Rattle.sizes.specs.Sizes.{ringSize}
 use Rattle.dock.specs.Start as starting
 use Rattle.dock.specs.Store as storing
 use Rattle.dock.specs.Submit.{finish, mostStores, submit}

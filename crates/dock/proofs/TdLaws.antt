@@ -9,7 +9,7 @@ use borrow.Author.Tests.{eq-eqb}
 use Rattle.base.proofs.Decide.{Decides, by-eqb, if-not}
 use Rattle.ring.specs.Ring.{onward, around, linkTrb}
 use Rattle.ring.specs.declared.Position.{Position}
-use Rattle.records.specs.Records.{control, isoch}
+use Rattle.sizes.specs.Sizes.{control, isoch}
 use Rattle.records.specs.declared.Record.{Record}
 use Rattle.dock.specs.declared.Endpoint.{Endpoint}
 use Rattle.dock.specs.declared.Shape.{Shape}

@@ -20,8 +20,7 @@ use Rattle.trb.specs.declared.Words.{Words}
 use Rattle.ring.specs.Ring.{slotOf}
 use Rattle.ring.specs.declared.Slot.{Slot}
 use Rattle.ring.specs.declared.Slot.the-variants as slot
-use Rattle.ids.specs.Free.{recordCount}
-use Rattle.packets.specs.Packets.{packetCount}
+use Rattle.sizes.specs.Sizes.{fewestSlots, mostSlots, alignment, trbBytes, mostDci, mostSlotId, recordCount, recordsSize, packetCount, packetsSize, longest, longestControl}
 use Rattle.records.specs.Records.{inFlight, recordAt}
 use Rattle.dock.specs.declared.Endpoint.{Endpoint}
 use Rattle.dock.specs.declared.Identity.{Identity}
@@ -29,7 +28,7 @@ use Rattle.dock.specs.declared.Shape.{Shape}
 use Rattle.dock.specs.declared.What.the-variants.{Control, Bulk, Interrupt, Isoch}
 use Rattle.dock.specs.Fit.{fits, placesFit, fitsWith, strays, flies, nextOf, isNone}
 use Rattle.dock.specs.HandOver.{isOutside, slotFor, foreign}
-use Rattle.dock.specs.Limits.{limitsHold, recordsSize, longest, longestControl}
+use Rattle.dock.specs.Limits.{limitsHold}
 use Rattle.dock.specs.Make.{sized}
 use Rattle.dock.specs.Start.{crowded, sumOf, someOver, tooLong, isFull, beyond}
 use Rattle.dock.specs.Stores.{trbCount}
@@ -38,10 +37,10 @@ use Rattle.dock.specs.Stores.{trbCount}
 
 -- "Slots L: 3 to 4,096. Base: a multiple of 4,096, base + 16L at most 2^64. dci 1 to 31, slot id 1 to 255."
 pub record Limits (shape : Shape) (who : Identity) : Type 0 where
-  pub slots-least : 3 ≤ shape .slots
-  pub slots-most : shape .slots ≤ 4096
-  pub base-aligned : shape .base % 4096 ≡ 0
-  pub base-room : shape .base + 16 * shape .slots ≤ 2 ^ 64
+  pub slots-least : fewestSlots ≤ shape .slots
+  pub slots-most : shape .slots ≤ mostSlots
+  pub base-aligned : shape .base % alignment ≡ 0
+  pub base-room : shape .base + trbBytes * shape .slots ≤ 2 ^ 64
   pub dci-least : 1 ≤ who .dci
   pub dci-most : who .dci ≤ 31
   pub slot-least : 1 ≤ who .slot
@@ -67,16 +66,16 @@ by-limits shape who =
     ))
     (both
     (both
-    (both (by-leb 3 (shape .slots)) (by-leb (shape .slots) 4096))
-    (both (by-eqb (shape .base % 4096) 0) (by-leb (shape .base + 16 * shape .slots) (2 ^ 64))))
-    (both (both (both (by-leb 1 (who .dci)) (by-leb (who .dci) 31)) (by-leb 1 (who .slot))) (by-leb (who .slot) 255)))
+    (both (by-leb fewestSlots (shape .slots)) (by-leb (shape .slots) mostSlots))
+    (both (by-eqb (shape .base % alignment) 0) (by-leb (shape .base + trbBytes * shape .slots) (2 ^ 64))))
+    (both (both (both (by-leb 1 (who .dci)) (by-leb (who .dci) mostDci)) (by-leb 1 (who .slot))) (by-leb (who .slot) mostSlotId)))
 
 -- The tables have their sizes: four words a slot, four words a place, 64 records of twelve words, 64 packets for each.
 pub record Sized (slots ring finished records packets : ℕ) : Type 0 where
   pub ring-size : ring ≡ 4 * slots
   pub finished-size : finished ≡ 4 * slots
-  pub records-size : records ≡ 768
-  pub packets-size : packets ≡ 4096
+  pub records-size : records ≡ recordsSize
+  pub packets-size : packets ≡ packetsSize
 
 pub by-sized : (slots ring finished records packets : ℕ) → Decides (sized slots ring finished records packets) (Sized slots ring finished records packets)
 unfolding sized
@@ -84,7 +83,7 @@ by-sized slots ring finished records packets =
     reworded
     (λ k. record { ring-size = k .0 .0 .0; finished-size = k .0 .0 .1; records-size = k .0 .1; packets-size = k .1 })
     (λ k. (((k .ring-size, k .finished-size), k .records-size), k .packets-size))
-    (both (both (both (by-eqb ring (4 * slots)) (by-eqb finished (4 * slots))) (by-eqb records 768)) (by-eqb packets 4096))
+    (both (both (both (by-eqb ring (4 * slots)) (by-eqb finished (4 * slots))) (by-eqb records recordsSize)) (by-eqb packets packetsSize))
 
 -- ---- row 1
 
@@ -195,7 +194,7 @@ by-beyond mask address size = both (by-ltb 0 size) (either (by-ltb mask address)
 
 -- Row 3, by the kind of the request.
 module _ (type request value index size : ℕ) (lengths : List ℕ) where
-  pub by-too-long-control : Decides (tooLong (Control type request value index) size lengths) (65535 < size)
+  pub by-too-long-control : Decides (tooLong (Control type request value index) size lengths) (longestControl < size)
   unfolding tooLong
   by-too-long-control = by-ltb longestControl size
 
@@ -219,16 +218,16 @@ none-over (n ∷ ns) = reworded there back (either (by-ltb longest n) (none-over
     back k = at (k .0) (k .1) (k .2)
 
 module _ (incoming : Bool) (size : ℕ) (lengths : List ℕ) where
-  pub by-too-long-bulk : Decides (tooLong (Bulk incoming) size lengths) (65536 < size)
+  pub by-too-long-bulk : Decides (tooLong (Bulk incoming) size lengths) (longest < size)
   unfolding tooLong
   by-too-long-bulk = by-ltb longest size
 
-  pub by-too-long-interrupt : Decides (tooLong (Interrupt incoming) size lengths) (65536 < size)
+  pub by-too-long-interrupt : Decides (tooLong (Interrupt incoming) size lengths) (longest < size)
   unfolding tooLong
   by-too-long-interrupt = by-ltb longest size
 
   -- "Over 64 packets", one packet over 65,536, "or sum over buffer".
-  pub by-too-long-isoch : Decides (tooLong (Isoch incoming) size lengths) (((64 < length lengths) ⊎ SomeOver 65536 lengths) ⊎ (size < sumOf lengths))
+  pub by-too-long-isoch : Decides (tooLong (Isoch incoming) size lengths) (((packetCount < length lengths) ⊎ SomeOver longest lengths) ⊎ (size < sumOf lengths))
   unfolding tooLong
   by-too-long-isoch = either (either (by-ltb packetCount (length lengths)) (none-over lengths)) (by-ltb size (sumOf lengths))
 

@@ -7,11 +7,11 @@ use lib.ListN.{length}
 use Rattle.base.specs.First.{pick}
 use Rattle.mask.specs.Occupancy.{held}
 use Rattle.mask.specs.declared.Occupancy.{Occupancy}
-use Rattle.ids.specs.Free.{recordCount}
+use Rattle.sizes.specs.Sizes.{recordCount, recordsSize}
 use Rattle.records.specs.Records.{inFlight, recordAt}
 use Rattle.records.specs.declared.Record.{Record}
 use Rattle.dock.specs.declared.Endpoint.{Endpoint}
-use Rattle.dock.specs.Limits.{limitsHold, recordsSize}
+use Rattle.dock.specs.Limits.{limitsHold}
 use Rattle.dock.specs.Stores.{trbCount, deferred}
 
 -- "Place above L-2 except L-1 just before the link's store": with a submission under way of which a TRB is stored. The place of its first TRB is one too.

@@ -15,7 +15,7 @@ use Rattle.dock.specs.declared.Endpoint.{Endpoint}
 use Rattle.dock.specs.declared.Taken.{Taken}
 use Rattle.dock.specs.declared.Taken.the-variants.{Place, Refused}
 use Rattle.dock.specs.Fit.{fits}
-use Rattle.dock.specs.Limits.{ringSize}
+use Rattle.sizes.specs.Sizes.{ringSize}
 
 abbrev pub isOutside : Slot → Bool
 isOutside (At i) = false

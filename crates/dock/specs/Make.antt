@@ -9,7 +9,8 @@ use Rattle.dock.specs.declared.Changed.{Changed}
 use Rattle.dock.specs.declared.Identity.{Identity}
 use Rattle.dock.specs.declared.Outcome.the-variants.{Done, Refused}
 use Rattle.dock.specs.declared.Shape.{Shape}
-use Rattle.dock.specs.Limits.{limitsHold, ringSize, recordsSize, packetsSize}
+use Rattle.sizes.specs.Sizes.{ringSize, recordsSize, packetsSize}
+use Rattle.dock.specs.Limits.{limitsHold}
 use Rattle.dock.specs.State.{fresh, blank}
 
 -- The tables of a ring of so many slots have their sizes.

@@ -14,8 +14,9 @@ use Rattle.trb.specs.declared.Words.{Words}
 use Rattle.finished.specs.Finished.{finishedAt}
 use Rattle.finished.specs.declared.Finished.{Finished}
 use Rattle.finished.specs.declared.Finished.the-variants as place
-use Rattle.records.specs.Records.{control, bulk, interrupt, isoch, inFlight, stopped, recordedWord, recordAt, setWord}
-use Rattle.packets.specs.Packets.{packetCount, packetAt, putPacket}
+use Rattle.sizes.specs.Sizes.{ringSize, packetCount, packetsSize, control, bulk, interrupt, isoch}
+use Rattle.records.specs.Records.{inFlight, stopped, recordedWord, recordAt, setWord}
+use Rattle.packets.specs.Packets.{packetAt, putPacket}
 use Rattle.packets.specs.declared.Packet.{Packet}
 use Rattle.records.specs.declared.Record.{Record}
 use Rattle.dock.specs.declared.Account.{Account}
@@ -25,7 +26,6 @@ use Rattle.dock.specs.declared.Reclaimed.{Reclaimed}
 use Rattle.dock.specs.declared.Reclaimed.the-variants as answer
 use Rattle.dock.specs.declared.ReclaimedOne.{ReclaimedOne}
 use Rattle.dock.specs.Fit.{fitsWith}
-use Rattle.dock.specs.Limits.{ringSize, packetsSize}
 use Rattle.dock.specs.Worth.{accepted, movedBytes, Worth, bytes, refused, worth}
 
 -- ---- leaving flight

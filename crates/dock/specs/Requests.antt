@@ -4,7 +4,8 @@ use mathlib.Core.Bool.{Bool, false}
 use lib.Dec.{eqb}
 use Rattle.base.specs.First.{pick}
 use Rattle.base.specs.Fields.{bits}
-use Rattle.records.specs.Records.{control, bulk, interrupt, isoch, inFlight}
+use Rattle.sizes.specs.Sizes.{control, bulk, interrupt, isoch}
+use Rattle.records.specs.Records.{inFlight}
 use Rattle.records.specs.declared.Record.{Record}
 use Rattle.dock.specs.declared.Request.{Request}
 use Rattle.dock.specs.declared.What.{What}

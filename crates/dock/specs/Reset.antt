@@ -4,7 +4,8 @@ use mathlib.Core.Bool.{Bool, true, false, not, _&&_, _||_}
 use mathlib.Core.List.{List, [], _∷_}
 use lib.Dec.{eqb}
 use Rattle.base.specs.First.{pick, first}
-use Rattle.ids.specs.Free.{recordCount, any}
+use Rattle.sizes.specs.Sizes.{recordCount}
+use Rattle.ids.specs.Free.{any}
 use Rattle.dock.specs.declared.Changed.{Changed}
 use Rattle.dock.specs.declared.Endpoint.{Endpoint}
 use Rattle.dock.specs.declared.Outcome.the-variants.{Done, Refused}

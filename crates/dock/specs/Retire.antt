@@ -5,7 +5,7 @@ use mathlib.Core.List.{List, [], _∷_}
 use lib.Dec.{eqb}
 use Rattle.base.specs.First.{pick, first}
 use Rattle.mask.specs.declared.Occupancy.{Occupancy}
-use Rattle.ids.specs.Free.{recordCount}
+use Rattle.sizes.specs.Sizes.{recordCount}
 use Rattle.records.specs.Records.{stateWord, stopped, recordAt, setWord}
 use Rattle.dock.specs.declared.Changed.{Changed}
 use Rattle.dock.specs.declared.Endpoint.{Endpoint}

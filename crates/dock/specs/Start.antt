@@ -1,5 +1,5 @@
 -- The start of a submission: "it stores no TRB; it takes id, record and count, and writes the record's packets anew, unmarked".
-use Prim.Native.Nat.{ℕ, _+_, _-_, _*_}
+use Prim.Native.Nat.{ℕ, _+_, _*_}
 use mathlib.Core.Bool.{Bool, true, false, not, _&&_, _||_}
 use mathlib.Core.List.{List, [], _∷_}
 use lib.Dec.{eqb, ltb}
@@ -10,10 +10,10 @@ use Rattle.base.specs.Part.{put}
 use Rattle.mask.specs.Occupancy as masks
 use Rattle.mask.specs.declared.Found.{Found}
 use Rattle.mask.specs.declared.Found.the-variants.{At, Full}
-use Rattle.ids.specs.Free.{recordWords, freeIn}
+use Rattle.sizes.specs.Sizes.{capacity, recordWords, packetCount, packetsSize, longest, longestControl}
+use Rattle.ids.specs.Free.{freeIn}
 use Rattle.ids.specs.Order.{afterId}
 use Rattle.records.specs.Records.{recordList}
-use Rattle.packets.specs.Packets.{packetCount}
 use Rattle.dock.specs.declared.Account.{Account}
 use Rattle.dock.specs.declared.Changed.{Changed}
 use Rattle.dock.specs.declared.Endpoint.{Endpoint}
@@ -22,7 +22,6 @@ use Rattle.dock.specs.declared.Request.{Request}
 use Rattle.dock.specs.declared.What.{What}
 use Rattle.dock.specs.declared.What.the-variants.{Control, Bulk, Interrupt, Isoch}
 use Rattle.dock.specs.declared.Work.{Work}
-use Rattle.dock.specs.Limits.{packetsSize, longest, longestControl}
 use Rattle.dock.specs.Fit.{fitsWith}
 use Rattle.dock.specs.Requests.{bufferOf, required, recordFor}
 use Rattle.dock.specs.State.{withWork}
@@ -31,7 +30,7 @@ use Rattle.dock.specs.State.{withWork}
 
 -- Row 2, capacity: "outstanding + required above L-2".
 unfoldable pub crowded : ℕ → ℕ → ℕ → Bool
-crowded slots outstanding more = ltb (slots - 2) (outstanding + more)
+crowded slots outstanding more = ltb (capacity slots) (outstanding + more)
 
 -- The sum of the packet lengths, and whether one is over the limit.
 abbrev pub sumOf : List ℕ → ℕ

@@ -7,14 +7,14 @@ use lib.ListN.{length}
 use Rattle.base.specs.First.{pick, first}
 use Rattle.ring.specs.Ring.{storeAt, onward, around}
 use Rattle.finished.specs.Finished.{clearPlace}
-use Rattle.records.specs.Records.{isoch, recordAt}
+use Rattle.sizes.specs.Sizes.{ringSize, packetsSize, isoch}
+use Rattle.records.specs.Records.{recordAt}
 use Rattle.records.specs.declared.Record.{Record}
 use Rattle.dock.specs.declared.Endpoint.{Endpoint}
 use Rattle.dock.specs.declared.Stored.{Stored}
 use Rattle.dock.specs.declared.Stored.the-variants.{Slot, Last, Refused}
 use Rattle.dock.specs.declared.StoredOne.{StoredOne}
 use Rattle.dock.specs.declared.Work.{Work}
-use Rattle.dock.specs.Limits.{ringSize, packetsSize}
 use Rattle.dock.specs.Fit.{fitsWith, Next, theLink, theTrb, theFirst, none, nextOf, isNone}
 use Rattle.dock.specs.State.{idle, moved}
 use Rattle.dock.specs.Stores.{trbOf, packetSize, deferred, firstTrb, linkFor, nextFrame}

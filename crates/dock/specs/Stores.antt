@@ -9,8 +9,8 @@ use Rattle.bursts.specs.Bursts.{burstsOf}
 use Rattle.trb.specs.declared.Trb.{Trb}
 use Rattle.trb.specs.declared.Trb.the-variants.{Normal, Setup, Data, Status, Isoch}
 use Rattle.ring.specs.Ring.{linkTrb}
-use Rattle.records.specs.Records.{control, bulk, interrupt, isoch}
-use Rattle.packets.specs.Packets.{packetCount, packetAt}
+use Rattle.sizes.specs.Sizes.{packetCount, frames, control, bulk, interrupt, isoch}
+use Rattle.packets.specs.Packets.{packetAt}
 use Rattle.records.specs.declared.Record.{Record}
 use Rattle.dock.specs.declared.Endpoint.{Endpoint}
 
@@ -90,4 +90,4 @@ linkFor e v = linkTrb (e .shape .base) (chained e v)
 
 -- "The next frame number moves by the interval modulo 2,048 at each packet's store." "Interval at least 1 (0 is taken as 1)."
 abbrev pub nextFrame : Endpoint → ℕ
-nextFrame e = (e .periodic .frame + max 1 (e .periodic .interval)) % 2048
+nextFrame e = (e .periodic .frame + max 1 (e .periodic .interval)) % frames

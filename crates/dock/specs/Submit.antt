@@ -13,7 +13,7 @@ use Rattle.dock.specs.declared.Submitted.the-variants as submitted
 use Rattle.dock.specs.Requests.{required}
 use Rattle.dock.specs.Start.{start}
 use Rattle.dock.specs.Store.{store}
-use Rattle.dock.specs.Limits.{ringSize}
+use Rattle.sizes.specs.Sizes.{ringSize}
 use lib.Dec.{eqb}
 use lib.ListN.{length}
 use mathlib.Core.Bool.{_&&_}

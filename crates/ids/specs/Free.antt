@@ -7,6 +7,7 @@ use lib.Dec.{eqb}
 use lib.ListN.{getD}
 use Rattle.mask.specs.Occupancy.{held}
 use Rattle.mask.specs.declared.Occupancy.{Occupancy}
+use Rattle.sizes.specs.Sizes.{recordCount, recordWords}
 use Rattle.ids.specs.Order.{afterId, afterN}
 use Rattle.ids.specs.declared.Taken.{Taken}
 
@@ -38,14 +39,6 @@ pub record FirstFree (held : ℕ → Bool) (s r : ℕ) : Type 0 where
   pub reached : r ≡ afterN steps s
   pub free : held r ≡ false
   pub before : (j : ℕ) → j < steps → held (afterN j s) ≡ true
-
--- The words of a record.
-abbrev pub recordWords : ℕ
-recordWords = 12
-
--- The records of a table.
-abbrev pub recordCount : ℕ
-recordCount = 64
 
 -- The id of record r of a table, its word 0.
 abbrev pub idAt : List ℕ → ℕ → ℕ

@@ -3,15 +3,10 @@ ghost use mathlib.Core.Path.{_≡_};
 ghost use Prim.Native.Nat.{_*_, _<_};
 ghost use lib.ListN.{length};
 ghost use Rattle.ids.specs.Order.{afterId};
-ghost use Rattle.ids.specs.Free.{recordWords, recordCount, freeIn, taken};
+ghost use Rattle.sizes.specs.Sizes.{recordCount, recordWords};
+ghost use Rattle.ids.specs.Free.{freeIn, taken};
 ghost use Rattle.ids.specs.Lookup.{findIn};
 use mask::Occupancy;
-
-// The words of a record, of which the first is its id.
-pub const RECORD_WORDS: usize = 12;
-
-// The records of a table.
-pub const RECORD_COUNT: usize = 64;
 
 // The id that is taken, and the one at which the next search starts.
 pub struct Taken {
@@ -40,9 +35,9 @@ pub fn free_id(records: &[u64], occupancy: Occupancy, next: u64) -> Taken
     let mut candidate = next;
     let id = 'ids: loop {
         let mut r: usize = 0;
-        while r < RECORD_COUNT {
+        while r < sizes::RECORD_COUNT {
             if mask::is_held(occupancy, r) {
-                if records[RECORD_WORDS * r] == candidate {
+                if records[sizes::RECORD_WORDS * r] == candidate {
                     candidate = after(candidate);
                     continue 'ids;
                 }
@@ -63,9 +58,9 @@ pub fn find_id(records: &[u64], occupancy: Occupancy, id: u64) -> Lookup
     ensures { λ r. ⌜ r ≡ findIn (now (records .entry)) occupancy id ⌝ }
 {
     let mut at: usize = 0;
-    while at < RECORD_COUNT {
+    while at < sizes::RECORD_COUNT {
         if mask::is_held(occupancy, at) {
-            if records[RECORD_WORDS * at] == id {
+            if records[sizes::RECORD_WORDS * at] == id {
                 return Lookup::At(at);
             }
         }

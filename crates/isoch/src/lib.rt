@@ -4,7 +4,7 @@ ghost use Prim.Native.Nat.{_+_, _*_, _%_, _≤_, _<_, max};
 ghost use lib.ListN.{length};
 ghost use lib.Seq.{paste};
 ghost use Rattle.bursts.specs.Bursts.{burstsOf};
-ghost use Rattle.packets.specs.Packets.{packetCount};
+ghost use Rattle.sizes.specs.Sizes.{packetCount};
 ghost use Rattle.dock.specs.Start.{atLeastOne};
 ghost use Rattle.isoch.specs.Packed.{packetTrb, packetPut, allPut};
 use bursts::Bursts;

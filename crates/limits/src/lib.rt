@@ -2,7 +2,8 @@
 ghost use mathlib.Core.Path.{_≡_};
 ghost use Prim.Native.Nat.{_*_, _<_};
 ghost use lib.Dec.{eqb};
-ghost use Rattle.dock.specs.Limits.{limitsHold, ringSize};
+ghost use Rattle.sizes.specs.Sizes.{ringSize};
+ghost use Rattle.dock.specs.Limits.{limitsHold};
 ghost use Rattle.limits.specs.Places.{placeFits, firstFits};
 use dock::Identity;
 use dock::Shape;
@@ -11,22 +12,22 @@ use dock::Shape;
 pub fn limits_hold(shape: Shape, who: Identity) -> bool
     ensures { λ r. ⌜ r ≡ limitsHold shape who ⌝ }
 {
-    if shape.slots < 3 {
+    if shape.slots < sizes::FEWEST_SLOTS {
         return false;
     }
-    if 4096 < shape.slots {
+    if sizes::MOST_SLOTS < shape.slots {
         return false;
     }
-    if shape.base % 4096 != 0 {
+    if shape.base % sizes::ALIGNMENT != 0 {
         return false;
     }
-    if u64::MAX - shape.base < 16 * shape.slots as u64 - 1 {
+    if u64::MAX - shape.base < sizes::TRB_BYTES * shape.slots as u64 - 1 {
         return false;
     }
     if who.dci < 1 {
         return false;
     }
-    if 31 < who.dci {
+    if sizes::MOST_DCI < who.dci {
         return false;
     }
     if who.slot < 1 {

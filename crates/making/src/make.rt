@@ -22,10 +22,10 @@ fn are_sized(slots: usize, ring: usize, finished: usize, records: usize, packets
     if !limits::is_sized(finished, slots) {
         return false;
     }
-    if records != checks::RECORDS_SIZE {
+    if records != sizes::RECORDS_SIZE {
         return false;
     }
-    packets == checks::PACKETS_SIZE
+    packets == sizes::PACKETS_SIZE
 }
 
 // "Making knows only 13, then 1."

@@ -10,8 +10,8 @@ use lib.Seq.{getD-set-same}
 use Rattle.base.specs.First.{pick}
 use Rattle.base.proofs.Compare.{same-or-not}
 use Rattle.base.proofs.ReadBack.{read-back, flag-read}
-use Rattle.ids.specs.Free.{recordCount}
-use Rattle.packets.specs.Packets.{packetCount, packetIndex, packetOf, packetFields, packetWord, packetAt, putPacket}
+use Rattle.sizes.specs.Sizes.{recordCount, packetCount}
+use Rattle.packets.specs.Packets.{packetIndex, packetOf, packetFields, packetWord, packetAt, putPacket}
 use Rattle.packets.specs.declared.Packet.{Packet}
 use Rattle.packets.proofs.PacketLaws.{packet-other}
 use Rattle.dock.proofs.ReclaimLaws.{put-long}

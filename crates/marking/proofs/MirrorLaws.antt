@@ -14,12 +14,12 @@ use lib.Seq.{getD-set-same, getD-set-other}
 use Rattle.base.specs.First.{pick}
 use Rattle.base.proofs.Compare.{same-or-not}
 use Rattle.base.proofs.Decide.{if-so}
-use Rattle.ids.specs.Free.{recordCount}
+use Rattle.sizes.specs.Sizes.{mostSlots, recordCount, packetCount}
 use Rattle.trb.specs.declared.Words.{Words}
 use Rattle.finished.specs.Finished.{finishedAt}
 use Rattle.finished.specs.declared.Finished.{Finished}
 use Rattle.finished.specs.declared.Finished.the-variants as place
-use Rattle.packets.specs.Packets.{packetCount, packetAt, putPacket}
+use Rattle.packets.specs.Packets.{packetAt, putPacket}
 use Rattle.packets.specs.declared.Packet.{Packet}
 use Rattle.records.specs.declared.Record.{Record}
 use Rattle.dock.specs.Reclaim.{codeOf, remainingOf, placeOf, counted, closeBelow, Swept, fatal, found, sweptBy as dockSwept, sweptAt, sweep}
@@ -311,7 +311,7 @@ module _ (slots : ℕ) (finished : List ℕ) (v : Record) (number : ℕ) (inside
 
   -- ---- the whole walk
 
-  module _ (ps : List Packet) (wide : first + v .count ≤ length ps) (table : length finished ≡ 4 * slots) (most : slots ≤ 4096)
+  module _ (ps : List Packet) (wide : first + v .count ≤ length ps) (table : length finished ≡ 4 * slots) (most : slots ≤ mostSlots)
       (same : (j : ℕ) → j < v .count → held ps j ≡ packetAt l number j) where
     abbrev its : Block
     its = record { first = first; count = v .count; place = v .place; slots = slots }

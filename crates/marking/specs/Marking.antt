@@ -5,6 +5,7 @@ use mathlib.Core.List.{List}
 use lib.Dec.{eqb, ltb, leb}
 use lib.ListN.{length, getD, set}
 use Rattle.base.specs.First.{pick}
+use Rattle.sizes.specs.Sizes.{mostSlots}
 use Rattle.finished.specs.Finished.{finishedAt}
 use Rattle.finished.specs.declared.Finished.{Finished}
 use Rattle.finished.specs.declared.Finished.the-variants as place
@@ -37,7 +38,7 @@ isUnfit = 3
 -- The block lies in the table of packets, and its places are slots 0 to L-2 of the finished table.
 unfoldable pub fitting : ℕ → ℕ → Block → Bool
 fitting packets finished b =
-    leb (b .slots) 4096 && ltb (b .place + 1) (b .slots) && eqb finished (4 * b .slots) && leb (b .first + b .count) packets
+    leb (b .slots) mostSlots && ltb (b .place + 1) (b .slots) && eqb finished (4 * b .slots) && leb (b .first + b .count) packets
 
 abbrev pub started : Block → Standing
 started b = record { at = b .first; end = b .first + b .count; first = b .first; place = b .place; slots = b .slots; ended = isOpen; code = 0 }

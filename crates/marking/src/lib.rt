@@ -10,8 +10,8 @@ ghost use lib.ListN.{length};
 ghost use Rattle.finished.specs.Finished.{finishedAt};
 ghost use Rattle.marking.specs.Marking.{behind, fitting, beginOf, onward, closedOf, creditOf, seenOf, turnOf, Fine};
 use finished::Finished;
-use packets::PACKETS;
 use packets::Packet;
+use sizes::PACKET_COUNT;
 use worth::Value;
 use worth::value_of;
 

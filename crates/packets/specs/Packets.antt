@@ -4,11 +4,8 @@ use mathlib.Core.List.{List, [], _∷_}
 use lib.Dec.{eqb}
 use lib.ListN.{getD, set}
 use Rattle.base.specs.Fields.{Field, field, flag, word, bits}
+use Rattle.sizes.specs.Sizes.{packetCount}
 use Rattle.packets.specs.declared.Packet.{Packet}
-
--- The packets of a record.
-abbrev pub packetCount : ℕ
-packetCount = 64
 
 -- Requested bytes, counted bytes, and whether the packet is marked as counted: any word is a packet.
 abbrev pub packetOf : ℕ → Packet

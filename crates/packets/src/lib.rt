@@ -5,9 +5,7 @@ ghost use Prim.Native.Nat.{_+_, _*_, _<_};
 ghost use lib.ListN.{length};
 ghost use Rattle.base.specs.Fields.{flag};
 ghost use Rattle.packets.specs.Packets.{packetOf, packetWord, packetIndex, packetAt, putPacket};
-
-// The packets of a record.
-pub const PACKETS: usize = 64;
+use sizes::PACKET_COUNT;
 
 pub struct Packet {
     pub requested: u32,
@@ -45,7 +43,7 @@ pub fn packet_at(packets: &[u64], r: usize, k: usize) -> Packet
     requires { ⌜ packetIndex r k < length (now packets) ⌝ }
     ensures { λ p. ⌜ p ≡ packetAt (now (packets .entry)) r k ⌝ }
 {
-    let at = PACKETS * r + k;
+    let at = PACKET_COUNT * r + k;
     packet_of(packets[at])
 }
 
@@ -53,6 +51,6 @@ pub fn put_packet(packets: &mut [u64], r: usize, k: usize, p: Packet)
     requires { ⌜ packetIndex r k < length (now packets) ⌝ }
     ensures { λ _. ⌜ now (packets .exit) ≡ putPacket (now (packets .entry)) r k p ⌝ }
 {
-    let at = PACKETS * r + k;
+    let at = PACKET_COUNT * r + k;
     packets[at] = word_of(p);
 }

@@ -5,7 +5,8 @@ use lib.Dec.{ltb}
 use Rattle.base.specs.First.{pick}
 use Rattle.trb.specs.Layouts.{wordsAt}
 use Rattle.trb.specs.declared.Words.{Words}
-use Rattle.packets.specs.Packets.{packetCount, packetAt}
+use Rattle.sizes.specs.Sizes.{packetCount}
+use Rattle.packets.specs.Packets.{packetAt}
 use Rattle.page.specs.Page.{decimalField, hexField, flagField, newline}
 use Rattle.controller.specs.declared.Consumer.{Consumer}
 use Rattle.dock.specs.declared.Completion.{Completion}

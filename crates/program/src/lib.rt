@@ -21,9 +21,9 @@ use values::value;
 // page with room for the longest answer.
 pub const WORDS: usize = 16384;
 
-pub const RECORDS: usize = checks::RECORDS_SIZE;
+pub const RECORDS: usize = sizes::RECORDS_SIZE;
 
-pub const PACKETS: usize = checks::PACKETS_SIZE;
+pub const PACKETS: usize = sizes::PACKETS_SIZE;
 
 pub const BYTES: usize = 65536;
 

@@ -19,7 +19,7 @@ use Rattle.trb.specs.Layouts.{kindOf}
 use Rattle.trb.specs.declared.Trb.{Trb}
 use Rattle.trb.specs.declared.Trb.the-variants.{Setup, Status, Isoch}
 use Rattle.trb.proofs.LayoutLaws.{type-is}
-use Rattle.ids.specs.Free.{recordCount}
+use Rattle.sizes.specs.Sizes.{recordCount, packetsSize, longest, longestControl}
 use Rattle.ring.specs.Ring.{linkTrb}
 use Rattle.packets.specs.Packets.{packetAt}
 use Rattle.packets.specs.declared.Packet.{Packet}
@@ -30,7 +30,6 @@ use Rattle.dock.specs.declared.Request.{Request}
 use Rattle.dock.specs.declared.What.{What}
 use Rattle.dock.specs.declared.What.the-variants as asks
 use Rattle.dock.specs.Fit.{theTrb}
-use Rattle.dock.specs.Limits.{packetsSize}
 use Rattle.dock.specs.Requests.{countFor, bufferOf, required, withWhat, recordFor}
 use Rattle.dock.specs.Start.{tooLong, atLeastOne, writePackets}
 use Rattle.dock.specs.Store.{stepped}
@@ -86,10 +85,10 @@ module _ (type request value index : ℕ) (given : Request) (fits : typed (asks.
     abbrev v : Record
     v = recordFor (withWhat given (asks.Control type request value index)) (length lengths) id place
 
-    size-small : size ≤ 65535
+    size-small : size ≤ longestControl
     size-small =
-        ⊎-elim (λ (h : 65535 < size). absurd (by-too-long-control type request value index size lengths .not-so short h))
-        (λ (h : size ≤ 65535). h) (lt-or-le 65535 size)
+        ⊎-elim (λ (h : longestControl < size). absurd (by-too-long-control type request value index size lengths .not-so short h))
+        (λ (h : size ≤ longestControl). h) (lt-or-le longestControl size)
 
     no-data : (incoming : Bool) → Status true (not (incoming && false)) ≡ Status true true
     no-data true = refl
@@ -124,7 +123,7 @@ module _ (type request value index : ℕ) (given : Request) (fits : typed (asks.
 -- ---- bulk and interrupt
 
 module _ (incoming : Bool) (given : Request) (lengths : List ℕ) (id place : ℕ) (e : Endpoint) (packets : List ℕ) where
-  normal-asked : (v : Record) → given .length ≤ 65536
+  normal-asked : (v : Record) → given .length ≤ longest
       → v ≡ recordFor (withWhat given (asks.Bulk incoming)) (length lengths) id place ⊎ v ≡ recordFor (withWhat given (asks.Interrupt incoming)) (length lengths) id place
       → upcoming 1 e v packets ≡ normalTrbs (given .address) (given .length)
   unfolding upcoming trbOf
@@ -135,16 +134,16 @@ module _ (incoming : Bool) (given : Request) (lengths : List ℕ) (id place : �
       → upcoming 1 e (recordFor (withWhat given (asks.Bulk incoming)) (length lengths) id place) packets ≡ normalTrbs (given .address) (given .length)
   bulk-asked short =
       normal-asked _
-      (⊎-elim (λ (h : 65536 < given .length). absurd (by-too-long-bulk incoming (given .length) lengths .not-so short h))
-      (λ (h : given .length ≤ 65536). h) (lt-or-le 65536 (given .length)))
+      (⊎-elim (λ (h : longest < given .length). absurd (by-too-long-bulk incoming (given .length) lengths .not-so short h))
+      (λ (h : given .length ≤ longest). h) (lt-or-le longest (given .length)))
       (inl refl)
 
   interrupt-asked : tooLong (asks.Interrupt incoming) (given .length) lengths ≡ false
       → upcoming 1 e (recordFor (withWhat given (asks.Interrupt incoming)) (length lengths) id place) packets ≡ normalTrbs (given .address) (given .length)
   interrupt-asked short =
       normal-asked _
-      (⊎-elim (λ (h : 65536 < given .length). absurd (by-too-long-interrupt incoming (given .length) lengths .not-so short h))
-      (λ (h : given .length ≤ 65536). h) (lt-or-le 65536 (given .length)))
+      (⊎-elim (λ (h : longest < given .length). absurd (by-too-long-interrupt incoming (given .length) lengths .not-so short h))
+      (λ (h : given .length ≤ longest). h) (lt-or-le longest (given .length)))
       (inr refl)
 
 -- ---- ISO
@@ -157,7 +156,7 @@ module _ (incoming : Bool) (given : Request) (lengths : List ℕ) (id place : �
   record Asks (e : Endpoint) (ns : List ℕ) : Type 0 where
     end : e .work .stored + length ns ≡ trbCount iso
     sizes : (j : ℕ) → j < length ns → packetAt packets (e .work .number) (e .work .stored + j) .requested ≡ getD ns j 0
-    short : (j : ℕ) → j < length ns → getD ns j 0 ≤ 65536
+    short : (j : ℕ) → j < length ns → getD ns j 0 ≤ longest
 
   -- "Bit 9 on all but the last packet."
   not-last : (k : ℕ) (ns : List ℕ) → k + suc (length ns) ≡ trbCount iso → not (eqb (k + 1) (trbCount iso)) ≡ some ns
@@ -203,7 +202,7 @@ at-least : (ns : List ℕ) → length (atLeastOne ns) ≡ max 1 (length ns)
 at-least [] = refl
 at-least (n ∷ ns) = omega arith
 
-all-short : (ns : List ℕ) → ((k : ℕ) → k < length ns → getD ns k 0 ≤ 65536) → (k : ℕ) → k < length (atLeastOne ns) → getD (atLeastOne ns) k 0 ≤ 65536
+all-short : (ns : List ℕ) → ((k : ℕ) → k < length ns → getD ns k 0 ≤ longest) → (k : ℕ) → k < length (atLeastOne ns) → getD (atLeastOne ns) k 0 ≤ longest
 all-short [] short zero l = omega arith
 all-short [] short (suc k) l = absurd (omega arith)
 all-short (n ∷ ns) short k l = short k l

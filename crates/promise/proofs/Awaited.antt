@@ -7,7 +7,7 @@ use native.Mathlib.Nat.{add-zero, add-suc, suc-add}
 use native.Mathlib.Omega.{arith}
 use lib.ListN.{length, length-append}
 use Rattle.mask.specs.declared.Occupancy.{Occupancy}
-use Rattle.ids.specs.Free.{recordCount}
+use Rattle.sizes.specs.Sizes.{recordCount}
 use Rattle.trb.specs.declared.Words.{Words}
 use Rattle.dock.proofs.BooksLaws.{by-flies, part-flies}
 use Rattle.dock.proofs.Reached.{flightPart, flightSum, Sound}

@@ -8,6 +8,7 @@ use mathlib.Core.List.{List, [], _∷_, _++_}
 use mathlib.Core.Path.{_≡_, refl}
 use lib.ListN.{replicate}
 use Rattle.base.specs.Part.{put}
+use Rattle.sizes.specs.Sizes.{recordsSize, packetsSize}
 use Rattle.mask.specs.Occupancy as masks
 use Rattle.ids.specs.Free.{freeId, freeFrom, heldBy, any}
 use Rattle.ids.specs.Lookup.{findFrom, findId}
@@ -79,7 +80,7 @@ who = record { slot = 1; dci = 1; mask = 0xffffffff }
 
 outset : World
 unfolding makeNo makeTests make sized limitsHold
-outset = fromMaking (madeOf (make (tables 20) (tables 20) (tables 768) (tables 4096) shape who))
+outset = fromMaking (madeOf (make (tables 20) (tables 20) (tables recordsSize) (tables packetsSize) shape who))
 
 -- The world after the moves, and whether each of them may be made in its turn.
 ended : World × Bool
@@ -100,7 +101,7 @@ run-played w (m ∷ ms) r e =
 
 reached : Run (play outset moves)
 unfolding outset deferred chained
-reached = run-played outset moves (made (making (tables 20) (tables 20) (tables 768) (tables 4096) shape who refl)) all-allowed
+reached = run-played outset moves (made (making (tables 20) (tables 20) (tables recordsSize) (tables packetsSize) shape who refl)) all-allowed
 
 abbrev entry : ℕ → ℕ → ℕ → ℕ → ℕ → Entry
 entry i a b c d = record { at = i; trb = record { w0 = a; w1 = b; w2 = c; w3 = d } }

@@ -12,7 +12,7 @@ use lib.ListN.{length}
 use Rattle.base.specs.First.{pick}
 use Rattle.base.proofs.Compare.{same-or-not}
 use Rattle.base.proofs.Decide.{if-so}
-use Rattle.ids.specs.Free.{recordWords, recordCount}
+use Rattle.sizes.specs.Sizes.{recordCount, recordWords}
 use Rattle.ids.specs.Lookup.{findIn}
 use Rattle.ids.specs.declared.Lookup.{Lookup}
 use Rattle.ids.specs.declared.Lookup.the-variants as lookup

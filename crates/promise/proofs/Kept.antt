@@ -10,7 +10,7 @@ use lib.Dec.{eqb}
 use lib.ListN.{length}
 use Rattle.base.specs.First.{pick}
 use Rattle.mask.specs.declared.Occupancy.{Occupancy}
-use Rattle.ids.specs.Free.{recordCount}
+use Rattle.sizes.specs.Sizes.{recordCount, control, bulk, interrupt}
 use Rattle.trb.specs.Cycle.{Pointer, typeOf}
 use Rattle.trb.specs.Layouts.{wordsOf, wordsAt}
 use Rattle.trb.specs.declared.Trb.{Trb}
@@ -18,7 +18,7 @@ use Rattle.trb.specs.declared.Words.{Words}
 use Rattle.ring.specs.Ring.{linkTrb}
 use Rattle.ring.specs.declared.Position.{Position}
 use Rattle.finished.specs.Finished.{finishedAt}
-use Rattle.records.specs.Records.{control, bulk, interrupt, recordAt}
+use Rattle.records.specs.Records.{recordAt}
 use Rattle.finished.specs.declared.Finished.the-variants.{Event}
 use Rattle.records.specs.declared.Record.{Record}
 use Rattle.dock.specs.declared.Endpoint.{Endpoint}

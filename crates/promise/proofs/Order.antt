@@ -13,7 +13,7 @@ use mathlib.Core.Path.{_≡_, refl, sym, ap, _∙_, subst}
 use native.Mathlib.Omega.{arith}
 use lib.ListN.{length, take}
 use Rattle.base.proofs.Decide.{if-so}
-use Rattle.records.specs.Records.{control}
+use Rattle.sizes.specs.Sizes.{control}
 use Rattle.dock.specs.Stores.{trbCount, deferred}
 use Rattle.dock.proofs.TdLaws.{by-deferred}
 use Rattle.order.specs.Flat.{flat}

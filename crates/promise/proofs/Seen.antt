@@ -16,7 +16,7 @@ use Rattle.finished.specs.Finished.{finishedAt}
 use Rattle.finished.specs.declared.Finished.{Finished}
 use Rattle.finished.specs.declared.Finished.the-variants as place
 use Rattle.packets.specs.Packets.{packetAt, putPacket}
-use Rattle.records.specs.Records.{control, bulk, interrupt, isoch}
+use Rattle.sizes.specs.Sizes.{control, bulk, interrupt, isoch}
 use Rattle.records.specs.declared.Record.{Record}
 use Rattle.dock.specs.declared.Endpoint.{Endpoint}
 use Rattle.dock.specs.declared.ReclaimedOne.{ReclaimedOne}

@@ -24,7 +24,7 @@ use Rattle.dock.specs.declared.StoredAll.{StoredAll}
 use Rattle.dock.specs.declared.StoredOne.{StoredOne}
 use Rattle.dock.specs.declared.Work.{Work}
 use Rattle.dock.specs.Configure.{configure, plainNo}
-use Rattle.dock.specs.Limits.{ringSize}
+use Rattle.sizes.specs.Sizes.{ringSize}
 use Rattle.dock.specs.Make.{make, makeNo}
 use Rattle.dock.specs.Reclaim.{leave, nothing, reclaim}
 use Rattle.dock.specs.Start.{startNo}

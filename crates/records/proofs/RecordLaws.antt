@@ -15,7 +15,8 @@ use Rattle.base.specs.First.{pick}
 use Rattle.base.specs.Part.{put}
 use Rattle.base.proofs.Compare.{compared}
 use Rattle.base.proofs.Lent.{put-same, put-before, put-behind}
-use Rattle.ids.specs.Free.{recordWords, idAt}
+use Rattle.sizes.specs.Sizes.{recordWords}
+use Rattle.ids.specs.Free.{idAt}
 use Rattle.records.specs.Records.{wordAt, isSet, recordOf, partOf, recordAt, recordList, setWord}
 use Rattle.records.specs.declared.Record.{Record}
 

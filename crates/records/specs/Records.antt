@@ -5,22 +5,10 @@ use mathlib.Core.List.{List, [], _∷_}
 use lib.Dec.{eqb}
 use lib.ListN.{getD, set}
 use Rattle.base.specs.Fields.{flag}
-use Rattle.ids.specs.Free.{recordWords}
+use Rattle.sizes.specs.Sizes.{recordWords}
 use Rattle.records.specs.declared.Record.{Record}
 
--- The kinds of a request, and the states of a held record.
-abbrev pub control : ℕ
-control = 0
-
-abbrev pub bulk : ℕ
-bulk = 1
-
-abbrev pub interrupt : ℕ
-interrupt = 2
-
-abbrev pub isoch : ℕ
-isoch = 3
-
+-- The states of a held record.
 abbrev pub inFlight : ℕ
 inFlight = 1
 

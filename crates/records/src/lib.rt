@@ -5,9 +5,9 @@ ghost use Prim.Native.Nat.{_+_, _*_, _<_};
 ghost use lib.ListN.{length};
 ghost use Rattle.base.specs.Fields.{flag};
 ghost use Rattle.base.specs.Part.{filled, put};
-ghost use Rattle.ids.specs.Free.{recordWords, recordCount};
+ghost use Rattle.sizes.specs.Sizes.{recordCount, recordWords};
 ghost use Rattle.records.specs.Records.{recordOf, partOf, recordAt, recordList, setWord};
-use ids::RECORD_WORDS;
+use sizes::RECORD_WORDS;
 
 // What a request's later stores and its completion need.
 pub struct Record {

@@ -12,7 +12,8 @@ use Rattle.base.specs.First.{pick}
 use Rattle.base.proofs.Chosen.{quiet}
 use Rattle.mask.specs.Occupancy.{held}
 use Rattle.mask.specs.declared.Occupancy.{Occupancy}
-use Rattle.ids.specs.Free.{recordCount, recordWords, idAt, heldBy}
+use Rattle.sizes.specs.Sizes.{ringSize, recordCount, recordWords, recordsSize, packetCount, packetsSize, isoch}
+use Rattle.ids.specs.Free.{idAt, heldBy}
 use Rattle.ids.specs.Lookup.{findIn, Finds}
 use Rattle.ids.specs.declared.Lookup.the-variants.{At}
 use Rattle.ids.proofs.LookupLaws.{find-finds}
@@ -21,11 +22,9 @@ use Rattle.ring.specs.declared.Slot.the-variants as slot
 use Rattle.event.specs.Event.{eventOf}
 use Rattle.event.specs.declared.Event.{Event}
 use Rattle.trb.specs.declared.Words.{Words}
-use Rattle.packets.specs.Packets.{packetCount}
-use Rattle.records.specs.Records.{isoch, inFlight, recordAt}
+use Rattle.records.specs.Records.{inFlight, recordAt}
 use Rattle.records.specs.declared.Record.{Record}
 use Rattle.dock.specs.Fit.{fits, fitsWith}
-use Rattle.dock.specs.Limits.{ringSize, recordsSize, packetsSize}
 use Rattle.dock.specs.HandOver.{isOutside, slotNumber, slotFor, foreign, handOverTests, handOverNo}
 use Rattle.dock.specs.Cancel.{cancelTests, cancelNo}
 use Rattle.dock.specs.Reclaim.{badRecord, reclaimTests, reclaimNo}

@@ -2,8 +2,8 @@
 use Prim.Native.Nat.{ℕ, _+_}
 use mathlib.Core.Bool.{Bool, _&&_, _||_}
 use lib.Dec.{eqb, leb, ltb}
-use Rattle.packets.specs.Packets.{packetCount}
-use Rattle.records.specs.Records.{isoch, inFlight}
+use Rattle.sizes.specs.Sizes.{packetCount, isoch}
+use Rattle.records.specs.Records.{inFlight}
 use Rattle.finished.specs.declared.Finished.the-variants as place
 use Rattle.records.specs.declared.Record.{Record}
 

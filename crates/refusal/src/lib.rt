@@ -4,23 +4,22 @@ ghost use mathlib.Core.Bool.{_&&_};
 ghost use Prim.Native.Nat.{_*_};
 ghost use lib.Dec.{eqb};
 ghost use lib.ListN.{length};
-ghost use Rattle.ids.specs.Free.{recordCount, recordWords};
+ghost use Rattle.sizes.specs.Sizes.{ringSize, recordCount, recordWords, packetsSize};
 ghost use Rattle.ids.specs.Lookup.{findIn};
 ghost use Rattle.dock.specs.Fit.{fits, fitsWith};
-ghost use Rattle.dock.specs.Limits.{ringSize, packetsSize};
 ghost use Rattle.dock.specs.HandOver.{slotFor, slotNumber, foreign, handOverNo};
 ghost use Rattle.dock.specs.Cancel.{notFlying, cancelNo};
 ghost use Rattle.dock.specs.Reclaim.{badRecord, reclaimNo};
 ghost use Rattle.refusal.specs.Misplaced.{misplaced};
-use checks::ISOCH;
-use checks::PACKETS_SIZE;
 use dock::Endpoint;
 use ids::Lookup;
 use mask::Occupancy;
-use packets::PACKETS;
 use records::IN_FLIGHT;
 use records::Record;
 use ring::Slot;
+use sizes::ISOCH;
+use sizes::PACKET_COUNT;
+use sizes::PACKETS_SIZE;
 use trb::Words;
 
 // ---- an event that is handed over

@@ -9,7 +9,7 @@ use native.Mathlib.Omega.{arith}
 use borrow.Author.Tests.{lt-ltb, le-ltb}
 use lib.ListN.{length, getD, set, take, drop, drop-of-length-le}
 use lib.Seq.{drop-cons, paste, paste-suc, length-paste, set-split, append-snoc}
-use Rattle.dock.specs.Limits.{longest}
+use Rattle.sizes.specs.Sizes.{longest}
 use Rattle.dock.specs.Start.{sumOf, someOver, atLeastOne}
 
 -- ---- tested and added

@@ -17,10 +17,10 @@ pub fn kind_of(what: What) -> u64
             request: _,
             value: _,
             index: _,
-        } => checks::CONTROL,
-        What::Bulk { incoming: _ } => checks::BULK,
-        What::Interrupt { incoming: _ } => checks::INTERRUPT,
-        What::Isoch { incoming: _ } => checks::ISOCH,
+        } => sizes::CONTROL,
+        What::Bulk { incoming: _ } => sizes::BULK,
+        What::Interrupt { incoming: _ } => sizes::INTERRUPT,
+        What::Isoch { incoming: _ } => sizes::ISOCH,
     }
 }
 

@@ -4,7 +4,8 @@ use mathlib.Core.Bool.{Bool, not, _||_}
 use mathlib.Core.List.{List}
 use lib.Dec.{eqb}
 use Rattle.mask.specs.declared.Occupancy.{Occupancy}
-use Rattle.ids.specs.Free.{recordCount, any}
+use Rattle.sizes.specs.Sizes.{recordCount}
+use Rattle.ids.specs.Free.{any}
 use Rattle.dock.specs.Fit.{flies}
 
 -- Requests in flight, or TRBs outstanding, from the numbers of the account.

@@ -3,7 +3,8 @@ ghost use mathlib.Core.Path.{_≡_};
 ghost use Prim.Native.Nat.{_+_, _-_, _*_, _<_};
 ghost use mathlib.Core.Bool.{_&&_};
 ghost use lib.ListN.{length};
-ghost use Rattle.ids.specs.Free.{recordCount, recordWords, any};
+ghost use Rattle.sizes.specs.Sizes.{recordCount, recordWords};
+ghost use Rattle.ids.specs.Free.{any};
 ghost use Rattle.dock.specs.Fit.{flies};
 ghost use Rattle.dock.specs.Reset.{beginNo, beginReset, endNo, endReset};
 ghost use Rattle.resetting.specs.Steps.{occupiedBy};
@@ -13,8 +14,8 @@ use dock::Flags;
 use dock::Outcome;
 use dock::ResetBegun;
 use dock::Resetting;
-use ids::RECORD_COUNT;
 use mask::Occupancy;
+use sizes::RECORD_COUNT;
 
 // Is some request in flight?
 fn some_flying(records: &[u64], occupancy: Occupancy) -> bool

@@ -2,7 +2,7 @@
 ghost use mathlib.Core.Path.{_≡_};
 ghost use Prim.Native.Nat.{_+_, _-_, _*_, _<_};
 ghost use lib.ListN.{length};
-ghost use Rattle.ids.specs.Free.{recordCount, recordWords};
+ghost use Rattle.sizes.specs.Sizes.{recordCount, recordWords};
 ghost use Rattle.dock.specs.Fit.{flies};
 ghost use Rattle.dock.specs.Retire.{retiredBelow, retire};
 ghost use Rattle.retiring.specs.Steps.{retireOne};
@@ -10,11 +10,11 @@ use dock::Account;
 use dock::Changed;
 use dock::Endpoint;
 use dock::Outcome;
-use ids::RECORD_COUNT;
 use mask::Occupancy;
 use records::IN_FLIGHT;
 use records::STATE;
 use records::STOPPED;
+use sizes::RECORD_COUNT;
 
 // Is the record held, and its request in flight?
 pub fn is_flying(records: &[u64], occupancy: Occupancy, r: usize) -> bool

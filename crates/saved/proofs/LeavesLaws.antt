@@ -22,7 +22,7 @@ use Rattle.dock.specs.declared.Stored.the-variants.{Slot, Last}
 use Rattle.dock.specs.declared.Submitted.{Submitted}
 use Rattle.dock.specs.Configure.{plainNo, configure}
 use Rattle.dock.specs.Fit.{Next, nextOf, isNone}
-use Rattle.dock.specs.Limits.{ringSize}
+use Rattle.sizes.specs.Sizes.{ringSize}
 use Rattle.dock.specs.Make.{makeNo, make}
 use Rattle.dock.specs.Numbers.{outcomeNumber, storedNumber, submittedNumber, resettingNumber}
 use Rattle.dock.specs.Reclaim.{reclaim}

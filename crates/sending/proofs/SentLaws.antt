@@ -11,7 +11,8 @@ use lib.ListN.{length, getD}
 use Rattle.base.proofs.Compare.{same-or-not}
 use Rattle.ring.specs.declared.Position.{Position}
 use Rattle.packets.specs.Packets.{packetAt}
-use Rattle.records.specs.Records.{isoch, recordAt}
+use Rattle.sizes.specs.Sizes.{ringSize, recordCount, packetsSize, isoch}
+use Rattle.records.specs.Records.{recordAt}
 use Rattle.packets.specs.declared.Packet.{Packet}
 use Rattle.records.specs.declared.Record.{Record}
 use Rattle.dock.specs.declared.Endpoint.{Endpoint}
@@ -22,7 +23,6 @@ use Rattle.dock.specs.declared.Stored.{Stored}
 use Rattle.dock.specs.declared.Stored.the-variants as stored
 use Rattle.dock.specs.declared.StoredAll.{StoredAll}
 use Rattle.dock.specs.declared.Submitted.the-variants as submitted
-use Rattle.dock.specs.Limits.{ringSize}
 use Rattle.dock.specs.Requests.{required, withWhat, recordFor}
 use Rattle.dock.specs.Start.{startNo, tooLong, idTaken, recordTaken, atLeastOne, startedEndpoint, startedRecords, writePackets}
 use Rattle.dock.specs.State.{moved}
@@ -173,7 +173,7 @@ module _ (e : Endpoint) (records packets : List ℕ) (lengths ring finished : Li
         (λ (some : given .length ≡ 0 → ⊥). staged-alike 3 (rw (ne-eqb (given .length) 0 some) refl) (three-strides (begunWith c) (kept c) (asked c) ring finished refl late some))
         (same-or-not (given .length) 0)
 
-  module _ (incoming : Bool) (given : Request) (sized : length packets ≡ 4096) (below : recordTaken e < 64)
+  module _ (incoming : Bool) (given : Request) (sized : length packets ≡ packetsSize) (below : recordTaken e < recordCount)
       (short : tooLong (Isoch incoming) (given .length) lengths ≡ false) where
     abbrev q : Request
     q = withWhat given (Isoch incoming)
@@ -200,7 +200,7 @@ module _ (e : Endpoint) (records packets : List ℕ) (lengths ring finished : Li
         ∙ ap (λ (x : Endpoint × List ℕ × List ℕ). joinedBy q (closed (kept q) (asked q) x))
         (packets-stride b (kept q) (asked q) (atLeastOne lengths) refl counted asks (length (atLeastOne lengths)) 0 (penOf b) ring finished (omega arith))
 
-  alike : (what : What) (given : Request) → length packets ≡ 4096 → recordTaken e < 64 → tooLong what (given .length) lengths ≡ false
+  alike : (what : What) (given : Request) → length packets ≡ packetsSize → recordTaken e < recordCount → tooLong what (given .length) lengths ≡ false
       → Alike (withWhat given what)
   alike (Control type request value index) given sized below short = control-alike type request value index given
   alike (Bulk incoming) given sized below short = bulk-alike incoming given

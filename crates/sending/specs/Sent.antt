@@ -7,14 +7,11 @@ use lib.ListN.{length}
 use lib.Seq.{paste}
 use Rattle.base.specs.First.{pick}
 use Rattle.ring.specs.declared.Position.{Position}
-use Rattle.ids.specs.Free.{recordCount}
-use Rattle.packets.specs.Packets.{packetCount}
-use Rattle.records.specs.Records.{isoch}
+use Rattle.sizes.specs.Sizes.{fewestSlots, mostSlots, ringSize, recordCount, packetCount, packetsSize, isoch}
 use Rattle.records.specs.declared.Record.{Record}
 use Rattle.dock.specs.declared.Endpoint.{Endpoint}
 use Rattle.dock.specs.declared.StoredAll.{StoredAll}
 use Rattle.dock.specs.declared.Submitted.the-variants.{Done}
-use Rattle.dock.specs.Limits.{ringSize, packetsSize}
 use Rattle.dock.specs.Start.{atLeastOne}
 use Rattle.dock.specs.State.{idle, moved}
 use Rattle.dock.specs.Stores.{normalTrb, deferred, chained}
@@ -50,7 +47,7 @@ pub record Sendable (e : Endpoint) (ring finished packets : ℕ) : Type 0 where
   pub slots : ring ≡ ringSize (e .shape .slots)
   pub places : finished ≡ ringSize (e .shape .slots)
   pub words : packets ≡ packetsSize
-  pub least : 3 ≤ e .shape .slots
-  pub most : e .shape .slots ≤ 4096
+  pub least : fewestSlots ≤ e .shape .slots
+  pub most : e .shape .slots ≤ mostSlots
   pub here : e .at .place + 1 < e .shape .slots
   pub number : e .work .number < recordCount

@@ -5,8 +5,7 @@
 ghost use mathlib.Core.Path.{_≡_};
 ghost use Prim.Native.Nat.{_+_, _*_, _≤_, _<_};
 ghost use lib.ListN.{length};
-ghost use Rattle.packets.specs.Packets.{packetCount};
-ghost use Rattle.records.specs.Records.{isoch};
+ghost use Rattle.sizes.specs.Sizes.{packetCount, isoch};
 ghost use Rattle.dock.specs.Start.{atLeastOne};
 ghost use Rattle.sending.specs.Sent.{ended, sentIsoch, plainPut, sentBy, Sendable};
 use dock::Endpoint;
@@ -47,7 +46,7 @@ fn send_isoch(
     requires { ⌜ Sendable e (length (now ring)) (length (now finished)) (length (now packets)) × (length (now lengths) ≤ packetCount) ⌝ }
     ensures { λ r. ⌜ (r, now (ring .exit), now (finished .exit), now (packets .exit)) ≡ sentIsoch e v (now (ring .entry)) (now (finished .entry)) (now (packets .entry)) (atLeastOne (now (lengths .entry))) ⌝ }
 {
-    let start = packets::PACKETS * e.work.number;
+    let start = sizes::PACKET_COUNT * e.work.number;
     let p = e.at;
     let pen = Pen {
         at: p,
@@ -96,7 +95,7 @@ pub fn send(
     requires { ⌜ Sendable e (length (now ring)) (length (now finished)) (length (now packets)) × (v .kind ≡ isoch → length (now lengths) ≤ packetCount) ⌝ }
     ensures { λ r. ⌜ (r, now (ring .exit), now (finished .exit), now (packets .exit)) ≡ sentBy e v (now (ring .entry)) (now (finished .entry)) (now (packets .entry)) (now (lengths .entry)) ⌝ }
 {
-    if v.kind == checks::ISOCH {
+    if v.kind == sizes::ISOCH {
         return send_isoch(e, v, ring, finished, packets, lengths);
     }
     let p = put_plain(ring, finished, e, v);

@@ -19,7 +19,7 @@ use Rattle.dock.specs.declared.Stored.the-variants as stored
 use Rattle.dock.specs.declared.StoredAll.{StoredAll}
 use Rattle.dock.specs.declared.StoredOne.{StoredOne}
 use Rattle.dock.specs.declared.Submitted.the-variants as submitted
-use Rattle.dock.specs.Limits.{ringSize}
+use Rattle.sizes.specs.Sizes.{ringSize}
 use Rattle.dock.specs.Requests.{countFor}
 use Rattle.dock.specs.Start.{someOver, sumOf, tooLong, startNo, startedEndpoint, startedRecords, writePackets, recordTaken, idTaken}
 use Rattle.dock.specs.State.{idle}

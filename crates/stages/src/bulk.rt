@@ -2,7 +2,7 @@
 ghost use mathlib.Core.Path.{_≡_};
 ghost use lib.ListN.{length};
 ghost use Rattle.dock.specs.Reclaim.{bulkBy, reclaimBulk};
-ghost use Rattle.ids.specs.Free.{recordCount};
+ghost use Rattle.sizes.specs.Sizes.{recordCount};
 ghost use Prim.Native.Nat.{_<_};
 ghost use Rattle.checks.specs.Shown.{Shown};
 use completing::completed;

@@ -4,7 +4,7 @@ ghost use Prim.Native.Nat.{_+_, _*_, _%_, _^_, _≤_, _<_};
 ghost use lib.Dec.{eqb};
 ghost use lib.ListN.{length};
 ghost use Rattle.base.specs.First.{pick};
-ghost use Rattle.ids.specs.Free.{recordCount, recordWords};
+ghost use Rattle.sizes.specs.Sizes.{recordCount, recordWords};
 ghost use Rattle.finished.specs.Finished.{finishedAt};
 ghost use Rattle.dock.specs.Reclaim.{stageBy, statusBy, recordedBy, recordedLength, placeOf, statusPlace, dataSeen, reclaimControl};
 ghost use Rattle.checks.specs.Shown.{Shown};

@@ -3,7 +3,8 @@ use Prim.Native.Nat.{ℕ, _+_}
 use mathlib.Core.List.{List}
 use Rattle.base.specs.Part.{put}
 use Rattle.mask.specs.Occupancy as masks
-use Rattle.ids.specs.Free.{recordWords, freeIn}
+use Rattle.sizes.specs.Sizes.{recordWords}
+use Rattle.ids.specs.Free.{freeIn}
 use Rattle.ids.specs.Order.{afterId}
 use Rattle.records.specs.Records.{recordList}
 use Rattle.dock.specs.declared.Endpoint.{Endpoint}

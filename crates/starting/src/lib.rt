@@ -5,13 +5,11 @@ ghost use mathlib.Core.Path.{_≡_};
 ghost use Prim.Native.Nat.{_+_, _*_, _^_, _≤_, _<_};
 ghost use lib.ListN.{length};
 ghost use lib.Seq.{paste};
-ghost use Rattle.sizes.specs.Sizes.{recordCount};
+ghost use Rattle.sizes.specs.Sizes.{mostSlots, capacity, recordCount, recordsSize, packetCount};
 ghost use Rattle.mask.specs.Occupancy.{lowest};
-ghost use Rattle.packets.specs.Packets.{packetCount};
 ghost use Rattle.dock.specs.Requests.{givenOf, required};
 ghost use Rattle.dock.specs.Start.{numberFrom, atLeastOne, writePackets};
 ghost use Rattle.starting.specs.Taken.{startedBy, takenWith, begunWith};
-ghost use Rattle.dock.specs.Limits.{recordsSize};
 ghost use Rattle.admission.specs.Admitted.{Admitted};
 use dock::Account;
 use dock::Endpoint;
@@ -50,7 +48,7 @@ fn write_lengths(packets: &mut [u64], number: usize, lengths: &[u64])
     requires { ⌜ (packetCount * number + packetCount ≤ length (now packets)) × (length (now lengths) ≤ packetCount) ⌝ }
     ensures { λ _. ⌜ now (packets .exit) ≡ paste (now (packets .entry)) (packetCount * number) (atLeastOne (now (lengths .entry))) (length (atLeastOne (now (lengths .entry)))) ⌝ }
 {
-    let start = packets::PACKETS * number;
+    let start = sizes::PACKET_COUNT * number;
     if lengths.len() == 0 {
         packets[start] = 0;
         return;
@@ -108,7 +106,7 @@ pub struct Begun {
 
 // The id, the record and the count.
 pub fn take(e: Endpoint, records: &mut [u64], request: Request, count: usize) -> Begun
-    requires { ⌜ (length (now records) ≡ recordsSize) × (0 < e .account .next) × (e .account .outstanding + required request count ≤ 4094) ⌝ }
+    requires { ⌜ (length (now records) ≡ recordsSize) × (0 < e .account .next) × (e .account .outstanding + required request count ≤ capacity mostSlots) ⌝ }
     ensures { λ r. ⌜ (r, now (records .exit)) ≡ takenWith e (now (records .entry)) request count ⌝ }
 {
     let number = record_taken(e.account.occupancy);

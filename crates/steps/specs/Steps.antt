@@ -3,7 +3,7 @@ use Prim.Native.Nat.{ℕ, _+_, _%_, _^_}
 use lib.Dec.{eqb}
 use Rattle.base.specs.First.{pick}
 use Rattle.ring.specs.Ring.{onward}
-use Rattle.records.specs.Records.{isoch}
+use Rattle.sizes.specs.Sizes.{isoch}
 use Rattle.records.specs.declared.Record.{Record}
 use Rattle.dock.specs.declared.Endpoint.{Endpoint}
 use Rattle.dock.specs.declared.Stored.the-variants.{Slot, Last}

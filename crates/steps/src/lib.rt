@@ -1,7 +1,7 @@
 // What one store changes of the endpoint, and its answer: functions on values, for the stores one by one and for the whole submission.
 ghost use mathlib.Core.Path.{_≡_};
 ghost use Prim.Native.Nat.{_+_, _≤_, _<_, max};
-ghost use Rattle.packets.specs.Packets.{packetCount};
+ghost use Rattle.sizes.specs.Sizes.{mostSlots, packetCount};
 ghost use Rattle.dock.specs.State.{idle, moved};
 ghost use Rattle.dock.specs.Stores.{nextFrame};
 ghost use Rattle.dock.specs.Store.{worked, frameOn, firstCycle};
@@ -73,7 +73,7 @@ fn next_frame(e: Endpoint) -> u16
 fn frame_on(e: Endpoint, v: Record) -> u16
     ensures { λ r. ⌜ r ≡ frameOn e v ⌝ }
 {
-    if v.kind == checks::ISOCH {
+    if v.kind == sizes::ISOCH {
         return next_frame(e);
     }
     e.periodic.frame
@@ -83,7 +83,7 @@ fn frame_on(e: Endpoint, v: Record) -> u16
 fn run_on(e: Endpoint, v: Record, size: u32) -> u64
     ensures { λ r. ⌜ r ≡ runWith e v size ⌝ }
 {
-    if v.kind != checks::ISOCH {
+    if v.kind != sizes::ISOCH {
         return e.work.address;
     }
     std::num::wrapping_add_u64(e.work.address, size as u64)
@@ -104,7 +104,7 @@ pub fn first_cycle(e: Endpoint, v: Record) -> bool
 
 // The endpoint after a TRB's store.
 pub fn advanced(e: Endpoint, v: Record, size: u32) -> Endpoint
-    requires { ⌜ (e .at .place + 1 ≤ 4096) × (e .work .stored ≤ packetCount) ⌝ }
+    requires { ⌜ (e .at .place + 1 ≤ mostSlots) × (e .work .stored ≤ packetCount) ⌝ }
     ensures { λ r. ⌜ r ≡ advancedBy e v size ⌝ }
 {
     let p = Position {

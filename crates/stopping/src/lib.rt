@@ -4,6 +4,7 @@
 // dock.
 ghost use mathlib.Core.Path.{_≡_};
 ghost use Prim.Native.Nat.{_+_, _-_, _*_, _^_, _<_};
+ghost use Rattle.sizes.specs.Sizes.{trbBytes};
 ghost use Rattle.dock.specs.Commands.{resetWords, dequeueWords, stop, resume, pointer};
 use dock::Command;
 use dock::Endpoint;
@@ -24,7 +25,7 @@ pub fn reset_words(e: Endpoint) -> Words
 
 // Set TR Dequeue: the controller goes on where the producer stands.
 pub fn dequeue_words(e: Endpoint) -> Words
-    requires { ⌜ e .shape .base + 16 * e .at .place < 2 ^ 64 ⌝ }
+    requires { ⌜ e .shape .base + trbBytes * e .at .place < 2 ^ 64 ⌝ }
     ensures { λ r. ⌜ r ≡ dequeueWords e ⌝ }
 {
     let command = Trb::SetDequeue {

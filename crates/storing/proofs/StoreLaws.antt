@@ -11,7 +11,7 @@ use Rattle.base.proofs.Chosen.{quiet}
 use Rattle.records.specs.Records.{recordAt}
 use Rattle.records.specs.declared.Record.{Record}
 use Rattle.dock.specs.Fit.{theLink, theTrb, theFirst, none, fitsWith}
-use Rattle.dock.specs.Limits.{ringSize, packetsSize}
+use Rattle.sizes.specs.Sizes.{ringSize, packetsSize}
 use Rattle.dock.specs.Store.{storeTests, storeNo, stepped, slotStored, ringStored, finishedStored, storedAnswer}
 use Rattle.dock.specs.Stores.{trbOf, packetSize, deferred}
 use Rattle.dock.specs.declared.Endpoint.{Endpoint}

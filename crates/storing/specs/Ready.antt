@@ -1,9 +1,7 @@
 -- What a store needs of its tests, as facts on numbers.
 use Prim.Native.Nat.{ℕ, _+_, _≤_, _<_}
 use mathlib.Core.Path.{_≡_}
-use Rattle.ids.specs.Free.{recordCount}
-use Rattle.packets.specs.Packets.{packetCount}
-use Rattle.dock.specs.Limits.{ringSize, recordsSize, packetsSize}
+use Rattle.sizes.specs.Sizes.{mostSlots, ringSize, recordCount, recordsSize, packetCount, packetsSize}
 use Rattle.dock.specs.declared.Endpoint.{Endpoint}
 
 pub record Ready (e : Endpoint) (ring finished records packets : ℕ) : Type 0 where
@@ -11,7 +9,7 @@ pub record Ready (e : Endpoint) (ring finished records packets : ℕ) : Type 0 w
   pub places : finished ≡ ringSize (e .shape .slots)
   pub table : records ≡ recordsSize
   pub words : packets ≡ packetsSize
-  pub most : e .shape .slots ≤ 4096
+  pub most : e .shape .slots ≤ mostSlots
   pub here : e .at .place + 1 ≤ e .shape .slots
   pub first : e .work .place + 1 < e .shape .slots
   pub number : e .work .number < recordCount

@@ -6,8 +6,7 @@ ghost use mathlib.Core.Bool.{not, _&&_};
 ghost use Prim.Native.Nat.{_+_, _*_, _≤_, _<_};
 ghost use lib.Dec.{eqb};
 ghost use lib.ListN.{length};
-ghost use Rattle.packets.specs.Packets.{packetCount};
-ghost use Rattle.dock.specs.Limits.{ringSize, packetsSize};
+ghost use Rattle.sizes.specs.Sizes.{mostSlots, ringSize, packetCount, packetsSize};
 ghost use Rattle.dock.specs.Fit.{fitsWith};
 ghost use Rattle.dock.specs.State.{moved};
 ghost use Rattle.dock.specs.Store.{storeNo, worked};
@@ -31,7 +30,7 @@ fn is_unfit(e: Endpoint, ring: usize, finished: usize, records: &[u64], packets:
     if !limits::is_sized(finished, e.shape.slots) {
         return true;
     }
-    packets != checks::PACKETS_SIZE
+    packets != sizes::PACKETS_SIZE
 }
 
 // Row 1, then 10: "a store .. with none under way".
@@ -62,7 +61,7 @@ fn store_link(e: Endpoint, v: Record, ring: &mut [u32]) -> StoredOne
 
 // A TRB's store: "a TRB's first store clears" its place.
 fn store_trb(e: Endpoint, v: Record, size: u32, ring: &mut [u32], finished: &mut [u32]) -> StoredOne
-    requires { ⌜ (4 * e .at .place + 4 ≤ length (now ring)) × (4 * e .at .place + 4 ≤ length (now finished)) × (e .at .place + 1 ≤ 4096) × (e .work .stored ≤ packetCount) × (0 < e .shape .slots) ⌝ }
+    requires { ⌜ (4 * e .at .place + 4 ≤ length (now ring)) × (4 * e .at .place + 4 ≤ length (now finished)) × (e .at .place + 1 ≤ mostSlots) × (e .work .stored ≤ packetCount) × (0 < e .shape .slots) ⌝ }
     ensures { λ r. ⌜ (r, now (ring .exit), now (finished .exit)) ≡ trbBy e v size (now (ring .entry)) (now (finished .entry)) ⌝ }
 {
     let place = e.at.place;

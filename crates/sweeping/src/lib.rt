@@ -6,8 +6,8 @@ ghost use Rattle.marking.specs.Marking.{walked};
 use marking::Block;
 use marking::Marked;
 use marking::Standing;
-use packets::PACKETS;
 use packets::Packet;
+use sizes::PACKET_COUNT;
 
 // The loop: each packet is taken, turned and put back, until the walk stands at its end.
 pub fn mark_packets(packets: &mut [Packet], finished: &[u32], b: Block) -> Standing

@@ -6,7 +6,8 @@ use mathlib.Core.List.{List}
 use lib.Dec.{eqb, ltb}
 use lib.ListN.{length, getD}
 use Rattle.base.specs.First.{pick}
-use Rattle.records.specs.Records.{control, bulk, interrupt, isSet}
+use Rattle.sizes.specs.Sizes.{control, bulk, interrupt}
+use Rattle.records.specs.Records.{isSet}
 use Rattle.dock.specs.declared.Request.{Request}
 use Rattle.dock.specs.declared.What.{What}
 use Rattle.dock.specs.declared.What.the-variants.{Control, Bulk, Interrupt, Isoch}

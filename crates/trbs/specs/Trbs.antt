@@ -4,7 +4,7 @@ use mathlib.Core.Bool.{_&&_}
 use lib.Dec.{eqb, ltb}
 use Rattle.base.specs.First.{pick}
 use Rattle.trb.specs.declared.Trb.{Trb}
-use Rattle.records.specs.Records.{control, isoch}
+use Rattle.sizes.specs.Sizes.{control, isoch}
 use Rattle.records.specs.declared.Record.{Record}
 use Rattle.dock.specs.declared.Endpoint.{Endpoint}
 use Rattle.dock.specs.Stores.{setupTrb, dataTrb, statusTrb, normalTrb, isochTrb}

@@ -3,7 +3,7 @@ ghost use mathlib.Core.Path.{_≡_};
 ghost use mathlib.Core.Bool.{not, _&&_};
 ghost use Prim.Native.Nat.{_≤_};
 ghost use lib.Dec.{ltb};
-ghost use Rattle.packets.specs.Packets.{packetCount};
+ghost use Rattle.sizes.specs.Sizes.{packetCount};
 ghost use Rattle.dock.specs.Stores.{transferType, setupTrb, dataTrb, statusTrb, normalTrb, isochTrb};
 ghost use Rattle.trbs.specs.Trbs.{firstOf, controlTrb, trbWith};
 use dock::Endpoint;
@@ -136,10 +136,10 @@ pub fn trb_of(e: Endpoint, v: Record, size: u32, k: usize) -> Trb
     requires { ⌜ k ≤ packetCount ⌝ }
     ensures { λ r. ⌜ r ≡ trbWith e v size k ⌝ }
 {
-    if v.kind == checks::CONTROL {
+    if v.kind == sizes::CONTROL {
         return control_trb(v, k);
     }
-    if v.kind == checks::ISOCH {
+    if v.kind == sizes::ISOCH {
         return isoch_trb(e, v, size, k);
     }
     normal_trb(v)

@@ -9,11 +9,11 @@ use native.Mathlib.Omega.{arith}
 use lib.ListN.{length, getD, set, length-set, length-replicate}
 use lib.Seq.{getD-set-same, getD-set-other}
 use Rattle.base.proofs.Compare.{same-or-not}
-use Rattle.packets.specs.Packets.{packetCount, packetAt}
+use Rattle.sizes.specs.Sizes.{recordCount, packetCount}
+use Rattle.packets.specs.Packets.{packetAt}
 use Rattle.packets.specs.declared.Packet.{Packet}
 use Rattle.records.specs.declared.Record.{Record}
 use Rattle.dock.specs.Reclaim.{Swept, sweep}
-use Rattle.ids.specs.Free.{recordCount}
 use Rattle.marking.specs.declared.Block.{Block}
 use Rattle.marking.specs.Marking.{nowhere, walked}
 use Rattle.marking.specs.Words.{sweptBy, keepOne, keepBelow}

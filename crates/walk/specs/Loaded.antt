@@ -2,7 +2,8 @@
 use Prim.Native.Nat.{ℕ, zero, suc}
 use mathlib.Core.List.{List}
 use lib.ListN.{set, replicate}
-use Rattle.packets.specs.Packets.{packetCount, packetAt}
+use Rattle.sizes.specs.Sizes.{packetCount}
+use Rattle.packets.specs.Packets.{packetAt}
 use Rattle.packets.specs.declared.Packet.{Packet}
 use Rattle.marking.specs.Marking.{nowhere}
 

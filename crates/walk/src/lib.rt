@@ -3,8 +3,7 @@
 ghost use mathlib.Core.Path.{_≡_};
 ghost use Prim.Native.Nat.{_*_, _≤_, _<_};
 ghost use lib.ListN.{length, getD};
-ghost use Rattle.ids.specs.Free.{recordCount};
-ghost use Rattle.packets.specs.Packets.{packetCount};
+ghost use Rattle.sizes.specs.Sizes.{recordCount, packetCount};
 ghost use Rattle.dock.specs.Reclaim.{total, sweep, reclaimIso};
 ghost use Rattle.marking.specs.Marking.{nowhere};
 ghost use Rattle.marking.specs.Words.{sweptBy, keepOne, keepBelow};
@@ -19,9 +18,9 @@ use marking::Block;
 use marking::FOUND;
 use marking::REFUSED;
 use marking::Standing;
-use packets::PACKETS;
 use packets::Packet;
 use records::Record;
+use sizes::PACKET_COUNT;
 
 // How a walk over packets ended: with nothing told yet, at a refused code, or at the last packet.
 pub enum Walk {

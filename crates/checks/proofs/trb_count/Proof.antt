@@ -17,11 +17,11 @@ returns-2 c = (simp (eq-eqb _ _ (c .before .before .if1 .taken), ne-eqb _ _ (c .
 
 returns-3 : tie.Need-returns-3
 unfolding trbCount
-returns-3 c = let m : min 64 (c .before .before .before .before .before .before .args .v .count) ≡ c .before .before .before .before .before .before .args .v .count = omega arith in (simp (ne-eqb _ _ (c .before .before .before .before .if1 .left), eq-eqb _ _ (c .before .before .if3 .taken), m), omega arith)
+returns-3 c = let m : min packetCount (c .before .before .before .before .before .before .args .v .count) ≡ c .before .before .before .before .before .before .args .v .count = omega arith in (simp (ne-eqb _ _ (c .before .before .before .before .if1 .left), eq-eqb _ _ (c .before .before .if3 .taken), m), omega arith)
 
 returns-4 : tie.Need-returns-4
 unfolding trbCount
-returns-4 c = let m : min 64 (c .before .before .before .before .before .before .args .v .count) ≡ 64 = omega arith in (simp (ne-eqb _ _ (c .before .before .before .before .if1 .left), eq-eqb _ _ (c .before .before .if3 .taken), m), omega arith)
+returns-4 c = let m : min packetCount (c .before .before .before .before .before .before .args .v .count) ≡ packetCount = omega arith in (simp (ne-eqb _ _ (c .before .before .before .before .if1 .left), eq-eqb _ _ (c .before .before .if3 .taken), m), omega arith)
 
 returns-5 : tie.Need-returns-5
 unfolding trbCount

@@ -8,7 +8,8 @@ use borrow.Author.Needs.{needs}
 use borrow.Author.Count.{below-more}
 use Rattle.base.proofs.Decide.{if-so, if-not}
 use Rattle.mask.specs.Occupancy.{held}
-use Rattle.ids.specs.Free.{recordCount, idAt, heldBy}
+use Rattle.sizes.specs.Sizes.{recordCount}
+use Rattle.ids.specs.Free.{idAt, heldBy}
 use Rattle.ids.specs.declared.Lookup.the-variants.{At, Nothing}
 use Rattle.ids.proofs.AnyLaws.{never-both, by-held}
 use Rattle.ids.proofs.LookupLaws.{find-computed}

@@ -10,7 +10,8 @@ use borrow.Author.Needs.{needs}
 use borrow.Author.Count.{below-more}
 use Rattle.base.proofs.Decide.{if-not}
 use Rattle.mask.specs.Occupancy.{held}
-use Rattle.ids.specs.Free.{recordCount, idAt, heldBy, taken}
+use Rattle.sizes.specs.Sizes.{recordCount}
+use Rattle.ids.specs.Free.{idAt, heldBy, taken}
 use Rattle.ids.proofs.AnyLaws.{never-both, any-none, by-held}
 use Rattle.ids.proofs.SearchLaws.{dist, Trying, trying-start, trying-next, trying-done}
 use Rattle.ids.proofs.free_id.Statement.{statement}

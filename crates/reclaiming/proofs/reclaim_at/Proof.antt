@@ -3,8 +3,7 @@ use Prim.Native.Nat.{_+_, _<_, _≤_}
 use mathlib.Core.Path.{ap, _∙_, _≡_}
 use borrow.Author.Needs.{needs}
 use borrow.Author.Tests.{eq-eqb, ne-eqb}
-use Rattle.packets.specs.Packets.{packetCount}
-use Rattle.records.specs.Records.{isoch}
+use Rattle.sizes.specs.Sizes.{packetCount, isoch}
 use Rattle.records.specs.declared.Record.{Record}
 use Rattle.refusal.specs.Misplaced.{misplaced}
 use Rattle.reclaiming.specs.Parts.{reclaimAt}

@@ -10,7 +10,7 @@ use denote.Ref.{now}
 use Rattle.base.specs.Part.{filled}
 use Rattle.base.proofs.Lent.{all-stored}
 use Rattle.records.specs.Records.{recordList}
-use Rattle.ids.specs.Free.{recordWords}
+use Rattle.sizes.specs.Sizes.{recordWords}
 use borrow.Author.Needs.{needs}
 use Rattle.records.proofs.fill.Statement.{statement}
 use Rattle.records.proofs.fill.Tie as tie

@@ -6,7 +6,7 @@ use native.Mathlib.Omega.{arith}
 use borrow.Author.Count.{below-more}
 use borrow.Author.Needs.{needs}
 use denote.Ref.{now}
-use Rattle.ids.specs.Free.{recordCount}
+use Rattle.sizes.specs.Sizes.{recordCount}
 use Rattle.ids.proofs.AnyLaws.{any-none, any-one}
 use Rattle.dock.specs.Fit.{flies}
 use Rattle.resetting.proofs.some_flying.Statement.{statement}

@@ -6,7 +6,7 @@ use native.Mathlib.Omega.{arith}
 use borrow.Author.Needs.{needs}
 use denote.Ref.{now}
 use lib.ListN.{length}
-use Rattle.ids.specs.Free.{recordCount}
+use Rattle.sizes.specs.Sizes.{recordCount}
 use Rattle.dock.specs.Retire.{retiredBelow}
 use Rattle.retiring.proofs.RetireLaws.{retired-none, retired-more}
 use Rattle.retiring.proofs.retire_all.Statement.{statement}
