@@ -17,7 +17,7 @@ use Rattle.dock.specs.declared.StoredOne.{StoredOne}
 use Rattle.dock.specs.declared.Work.{Work}
 use Rattle.dock.specs.Fit.{fitsWith, Next, theLink, theTrb, theFirst, none, nextOf, isNone}
 use Rattle.dock.specs.State.{idle, moved}
-use Rattle.dock.specs.Stores.{trbOf, packetSize, deferred, firstTrb, linkFor, nextFrame}
+use Rattle.dock.specs.Stores.{trbOf, packetSize, deferred, firstTrb, linkFor, frameAfter}
 
 -- Row 1, then 10: "a store .. with none under way".
 unfoldable pub storeTests : Endpoint → ℕ → ℕ → List ℕ → ℕ → List (Bool × ℕ)
@@ -39,7 +39,7 @@ runOn e v packets =
     pick (eqb (v .kind) isoch) ((e .work .address + packetSize e packets (e .work .stored)) % 2 ^ 64) (e .work .address)
 
 abbrev pub frameOn : Endpoint → Record → ℕ
-frameOn e v = pick (eqb (v .kind) isoch) (nextFrame e) (e .periodic .frame)
+frameOn e v = pick (eqb (v .kind) isoch) (frameAfter (e .periodic .frame) (e .periodic .interval)) (e .periodic .frame)
 
 -- The first TRB of a deferred TD goes out with the opposite cycle, the rest as usual.
 abbrev pub firstCycle : Endpoint → Record → Bool

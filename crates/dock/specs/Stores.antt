@@ -6,6 +6,7 @@ use lib.Dec.{eqb, ltb}
 use Rattle.base.specs.First.{pick}
 use Rattle.base.specs.Fields.{bits}
 use Rattle.bursts.specs.Bursts.{burstsOf}
+use Rattle.bursts.specs.declared.Bursts.{Bursts}
 use Rattle.trb.specs.declared.Trb.{Trb}
 use Rattle.trb.specs.declared.Trb.the-variants.{Normal, Setup, Data, Status, Isoch}
 use Rattle.ring.specs.Ring.{linkTrb}
@@ -47,14 +48,15 @@ abbrev pub normalTrb : Record → Trb
 normalTrb v = Normal (v .address) (field17 (v .length)) 0 0 true false true
 
 -- Isoch: "bit 2 when in, bit 5, bit 9 on all but the last packet, last-burst count at bit 16, bit 31. With bit 31 on the frame id is 0".
+-- The TRB of a packet of so many bytes at an address, by its burst counts; `more` says that it is not the last.
+abbrev pub packetTrb : Bursts → Bool → ℕ → ℕ → Bool → Trb
+packetTrb bursts incoming address size more =
+    Isoch address (field17 size) (bursts .count) 0 incoming false true more (bursts .last) 0 true
+
+-- Packet k of the request under way, of so many bytes.
 abbrev pub isochTrb : Endpoint → Record → ℕ → ℕ → Trb
 isochTrb e v k size =
-    Isoch (e .work .address) (field17 size)
-    (burstsOf size (e .periodic .packet) (e .periodic .burst) .count)
-    0 (v .incoming) false true
-    (not (eqb (k + 1) (trbCount v)))
-    (burstsOf size (e .periodic .packet) (e .periodic .burst) .last)
-    0 true
+    packetTrb (burstsOf size (e .periodic .packet) (e .periodic .burst)) (v .incoming) (e .work .address) size (not (eqb (k + 1) (trbCount v)))
 
 -- What packet k of the request under way asks for.
 abbrev pub packetSize : Endpoint → List ℕ → ℕ → ℕ
@@ -89,5 +91,5 @@ linkFor e v = linkTrb (e .shape .base) (chained e v)
 -- ---- the next frame
 
 -- "The next frame number moves by the interval modulo 2,048 at each packet's store." "Interval at least 1 (0 is taken as 1)."
-abbrev pub nextFrame : Endpoint → ℕ
-nextFrame e = (e .periodic .frame + max 1 (e .periodic .interval)) % frames
+abbrev pub frameAfter : ℕ → ℕ → ℕ
+frameAfter frame interval = (frame + max 1 interval) % frames

@@ -1,17 +1,20 @@
 -- A packet's store, and all of them, as the code makes them. Assumes nothing.
-use Prim.Native.Nat.{ℕ, suc, _+_, _-_, _%_, _^_, _<_, _≤_, max}
+use Prim.Native.Nat.{ℕ, suc, _+_, _-_, _%_, _^_, _<_, _≤_}
 use mathlib.Core.Bool.{Bool, false, not}
 use lib.Dec.{eqb}
 use lib.ListN.{length, getD}
 use mathlib.Core.List.{List}
 use mathlib.Core.Path.{_≡_, ap, _∙_}
 use native.Mathlib.Omega.{arith}
+use Rattle.bursts.specs.Bursts.{burstsOf}
+use Rattle.bursts.specs.declared.Bursts.{Bursts}
 use Rattle.trb.specs.declared.Trb.{Trb}
 use Rattle.ring.specs.declared.Position.{Position}
 use Rattle.dock.specs.declared.Periodic.{Periodic}
 use Rattle.dock.specs.declared.Shape.{Shape}
+use Rattle.dock.specs.Stores.{packetTrb, frameAfter}
 use Rattle.isoch.specs.declared.Pen.{Pen}
-use Rattle.isoch.specs.Packed.{packetTrb, penOn, packetPut, packetsPut, allPut}
+use Rattle.isoch.specs.Packed.{penOn, packetPut, packetsPut, allPut}
 use Rattle.striding.specs.Stride.{putTrb}
 
 abbrev penned : Periodic → Pen → ℕ → Position × List ℕ × List ℕ → Pen × List ℕ × List ℕ
@@ -19,18 +22,20 @@ penned s pen size x = (penOn s pen size (x .0), x .1, x .2)
 
 -- A packet's store, and the pen behind it.
 pub packet-is : (shape : Shape) (s : Periodic) (incoming : Bool) (size : ℕ) (more : Bool) (pen : Pen) (ring finished : List ℕ)
-    {trb : Trb} {q : Position} {ring₁ finished₁ : List ℕ} {address frame : ℕ}
-    → trb ≡ packetTrb s incoming pen size more
+    {bursts : Bursts} {trb : Trb} {q : Position} {ring₁ finished₁ : List ℕ} {address frame : ℕ}
+    → bursts ≡ burstsOf size (s .packet) (s .burst)
+    → trb ≡ packetTrb bursts incoming (pen .address) size more
     → _≡_ {A = Position × List ℕ × List ℕ} (q, ring₁, finished₁) (putTrb shape false (pen .at) trb (pen .at .cycle) ring finished)
     → address ≡ (pen .address + size) % 2 ^ 64
-    → frame ≡ (pen .frame + max 1 (s .interval)) % 2048
+    → frame ≡ frameAfter (pen .frame) (s .interval)
     → _≡_ {A = Pen × List ℕ × List ℕ} (record { at = q; address = address; frame = frame }, ring₁, finished₁)
     (packetPut shape s incoming size more pen ring finished)
 unfolding packetPut
-packet-is shape s incoming size more pen ring finished {trb} {q} {ring₁} {finished₁} {address} {frame} is stored run moved =
+packet-is shape s incoming size more pen ring finished {bursts} {trb} {q} {ring₁} {finished₁} {address} {frame} counts is stored run moved =
     rw (run, moved)
     (ap (penned s pen size) stored
-    ∙ ap (λ (t : Trb). penned s pen size (putTrb shape false (pen .at) t (pen .at .cycle) ring finished)) is)
+    ∙ ap (λ (t : Trb). penned s pen size (putTrb shape false (pen .at) t (pen .at .cycle) ring finished))
+    (is ∙ ap (λ (b : Bursts). packetTrb b incoming (pen .address) size more) counts))
 
 -- ---- the packets
 

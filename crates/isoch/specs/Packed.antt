@@ -1,34 +1,27 @@
 -- The packets of an ISO request, each stored behind the one before.
-use Prim.Native.Nat.{ℕ, zero, suc, _+_, _%_, _^_, max}
-use mathlib.Core.Bool.{Bool, true, false, not}
+use Prim.Native.Nat.{ℕ, zero, suc, _+_, _%_, _^_}
+use mathlib.Core.Bool.{Bool, false, not}
 use mathlib.Core.List.{List}
 use lib.Dec.{eqb}
 use lib.ListN.{length, getD}
 use Rattle.bursts.specs.Bursts.{burstsOf}
-use Rattle.trb.specs.declared.Trb.{Trb}
-use Rattle.trb.specs.declared.Trb.the-variants.{Isoch}
 use Rattle.ring.specs.declared.Position.{Position}
 use Rattle.dock.specs.declared.Periodic.{Periodic}
 use Rattle.dock.specs.declared.Shape.{Shape}
-use Rattle.dock.specs.Stores.{field17}
+use Rattle.dock.specs.Stores.{packetTrb, frameAfter}
 use Rattle.isoch.specs.declared.Pen.{Pen}
 use Rattle.striding.specs.Deferred.{putSame}
-
--- The TRB of a packet of so many bytes; `more` says that it is not the last.
-abbrev pub packetTrb : Periodic → Bool → Pen → ℕ → Bool → Trb
-packetTrb s incoming pen size more =
-    Isoch (pen .address) (field17 size) (burstsOf size (s .packet) (s .burst) .count) 0 incoming false true more
-    (burstsOf size (s .packet) (s .burst) .last) 0 true
 
 -- Behind a packet: the running address and the next frame number.
 abbrev pub penOn : Periodic → Pen → ℕ → Position → Pen
 penOn s pen size p =
-    record { at = p; address = (pen .address + size) % 2 ^ 64; frame = (pen .frame + max 1 (s .interval)) % 2048 }
+    record { at = p; address = (pen .address + size) % 2 ^ 64; frame = frameAfter (pen .frame) (s .interval) }
 
 -- One packet's store, and the pen behind it. A packet is a TD of its own: its link is not chained.
 unfoldable pub packetPut : Shape → Periodic → Bool → ℕ → Bool → Pen → List ℕ → List ℕ → Pen × List ℕ × List ℕ
 packetPut shape s incoming size more pen ring finished =
-    let d = putSame shape false (pen .at) (packetTrb s incoming pen size more) ring finished in (penOn s pen size (d .0), d .1, d .2)
+    let d = putSame shape false (pen .at) (packetTrb (burstsOf size (s .packet) (s .burst)) incoming (pen .address) size more) ring finished in
+    (penOn s pen size (d .0), d .1, d .2)
 
 -- So many packets, from packet k on.
 unfoldable pub packetsPut : ℕ → ℕ → Shape → Periodic → Bool → List ℕ → Pen → List ℕ → List ℕ → Pen × List ℕ × List ℕ

@@ -1,18 +1,17 @@
 // The packets of an ISO request: each length is read once, written to its packet record and stored in its TRB.
 ghost use mathlib.Core.Path.{_≡_};
-ghost use Prim.Native.Nat.{_+_, _*_, _%_, _≤_, _<_, max};
+ghost use Prim.Native.Nat.{_+_, _*_, _≤_, _<_};
 ghost use lib.ListN.{length};
 ghost use lib.Seq.{paste};
 ghost use Rattle.bursts.specs.Bursts.{burstsOf};
 ghost use Rattle.sizes.specs.Sizes.{packetCount};
 ghost use Rattle.dock.specs.Start.{atLeastOne};
-ghost use Rattle.isoch.specs.Packed.{packetTrb, packetPut, allPut};
+ghost use Rattle.isoch.specs.Packed.{packetPut, allPut};
 use bursts::Bursts;
 use dock::Periodic;
 use dock::Shape;
 use ring::Position;
 use striding::put;
-use trb::Trb;
 
 // Where an ISO submission stands: the producer's position, the running address and the next frame number.
 pub struct Pen {
@@ -32,34 +31,6 @@ fn bursts_again(s: Periodic, size: u64, bursts: Bursts, next: u64) -> Bursts
     bursts::bursts_of(next, s.packet, s.burst)
 }
 
-// Isoch: "bit 2 when in, bit 5, bit 9 on all but the last packet, last-burst count at bit 16, bit 31".
-fn packet_trb(s: Periodic, incoming: bool, pen: Pen, size: u64, bursts: Bursts, more: bool) -> Trb
-    requires { ⌜ bursts ≡ burstsOf size (s .packet) (s .burst) ⌝ }
-    ensures { λ r. ⌜ r ≡ packetTrb s incoming pen size more ⌝ }
-{
-    Trb::Isoch {
-        address: pen.address,
-        length: (size % 0x2_0000) as u32,
-        bursts: bursts.count,
-        target: 0,
-        short: incoming,
-        chain: false,
-        interrupt: true,
-        block: more,
-        last: bursts.last,
-        frame: 0,
-        asap: true,
-    }
-}
-
-// "The next frame number moves by the interval modulo 2,048 at each packet's store."
-fn frame_on(frame: u16, interval: u8) -> u16
-    ensures { λ r. ⌜ r ≡ (frame + max 1 interval) % 2048 ⌝ }
-{
-    let step = steps::at_least_one(interval);
-    ((frame as u32 + step as u32) % 2048) as u16
-}
-
 // One packet's store. A packet is a TD of its own: its link is not chained.
 fn put_packet(
     ring: &mut [u32],
@@ -75,13 +46,13 @@ fn put_packet(
     requires { ⌜ (4 * shape .slots ≤ length (now ring)) × (4 * shape .slots ≤ length (now finished)) × (2 ≤ shape .slots) × (pen .at .place + 1 < shape .slots) × (bursts ≡ burstsOf size (s .packet) (s .burst)) ⌝ }
     ensures { λ r. ⌜ ((r, now (ring .exit), now (finished .exit)) ≡ packetPut shape s incoming size more pen (now (ring .entry)) (now (finished .entry))) × (r .at .place + 1 < shape .slots) ⌝ }
 {
-    let trb = packet_trb(s, incoming, pen, size, bursts, more);
+    let trb = trbs::packet_trb(pen.address, size, bursts, incoming, more);
     let p = pen.at;
     let q = put::put(ring, finished, shape, false, p, trb);
     Pen {
         at: q,
         address: std::num::wrapping_add_u64(pen.address, size),
-        frame: frame_on(pen.frame, s.interval),
+        frame: steps::frame_after(pen.frame, s.interval),
     }
 }
 

@@ -3,7 +3,7 @@ ghost use mathlib.Core.Path.{_≡_};
 ghost use Prim.Native.Nat.{_+_, _≤_, _<_, max};
 ghost use Rattle.sizes.specs.Sizes.{mostSlots, packetCount};
 ghost use Rattle.dock.specs.State.{idle, moved};
-ghost use Rattle.dock.specs.Stores.{nextFrame};
+ghost use Rattle.dock.specs.Stores.{frameAfter};
 ghost use Rattle.dock.specs.Store.{worked, frameOn, firstCycle};
 ghost use Rattle.steps.specs.Steps.{runWith, advancedBy, concludedBy};
 use checks::Next;
@@ -63,18 +63,18 @@ pub fn worked(w: Work, stored: usize, address: u64) -> Work
 }
 
 // "The next frame number moves by the interval modulo 2,048 at each packet's store."
-fn next_frame(e: Endpoint) -> u16
-    ensures { λ r. ⌜ r ≡ nextFrame e ⌝ }
+pub fn frame_after(frame: u16, interval: u8) -> u16
+    ensures { λ r. ⌜ r ≡ frameAfter frame interval ⌝ }
 {
-    let interval = at_least_one(e.periodic.interval);
-    ((e.periodic.frame as u32 + interval as u32) % 2048) as u16
+    let step = at_least_one(interval);
+    ((frame as u32 + step as u32) % sizes::FRAMES) as u16
 }
 
 fn frame_on(e: Endpoint, v: Record) -> u16
     ensures { λ r. ⌜ r ≡ frameOn e v ⌝ }
 {
     if v.kind == sizes::ISOCH {
-        return next_frame(e);
+        return frame_after(e.periodic.frame, e.periodic.interval);
     }
     e.periodic.frame
 }

@@ -4,8 +4,9 @@ ghost use mathlib.Core.Bool.{not, _&&_};
 ghost use Prim.Native.Nat.{_≤_};
 ghost use lib.Dec.{ltb};
 ghost use Rattle.sizes.specs.Sizes.{packetCount};
-ghost use Rattle.dock.specs.Stores.{transferType, setupTrb, dataTrb, statusTrb, normalTrb, isochTrb};
+ghost use Rattle.dock.specs.Stores.{transferType, setupTrb, dataTrb, statusTrb, normalTrb, packetTrb, isochTrb};
 ghost use Rattle.trbs.specs.Trbs.{firstOf, controlTrb, trbWith};
+use bursts::Bursts;
 use dock::Endpoint;
 use records::Record;
 use trb::Trb;
@@ -94,25 +95,32 @@ pub fn normal_trb(v: Record) -> Trb
 }
 
 // Isoch: "bit 2 when in, bit 5, bit 9 on all but the last packet, last-burst count at bit 16, bit 31".
+pub fn packet_trb(address: u64, size: u64, bursts: Bursts, incoming: bool, more: bool) -> Trb
+    ensures { λ r. ⌜ r ≡ packetTrb bursts incoming address size more ⌝ }
+{
+    Trb::Isoch {
+        address,
+        length: (size % 0x2_0000) as u32,
+        bursts: bursts.count,
+        target: 0,
+        short: incoming,
+        chain: false,
+        interrupt: true,
+        block: more,
+        last: bursts.last,
+        frame: 0,
+        asap: true,
+    }
+}
+
+// Packet k of the request under way, of so many bytes.
 fn isoch_trb(e: Endpoint, v: Record, size: u32, k: usize) -> Trb
     requires { ⌜ k ≤ packetCount ⌝ }
     ensures { λ r. ⌜ r ≡ isochTrb e v k size ⌝ }
 {
     let b = bursts::bursts_of(size as u64, e.periodic.packet, e.periodic.burst);
-    let count = checks::trb_count(v);
-    Trb::Isoch {
-        address: e.work.address,
-        length: size % 0x2_0000,
-        bursts: b.count,
-        target: 0,
-        short: v.incoming,
-        chain: false,
-        interrupt: true,
-        block: k as u64 + 1 != count,
-        last: b.last,
-        frame: 0,
-        asap: true,
-    }
+    let more = k as u64 + 1 != checks::trb_count(v);
+    packet_trb(e.work.address, size as u64, b, v.incoming, more)
 }
 
 // TRB k of a control request: setup, data where there is any, status.

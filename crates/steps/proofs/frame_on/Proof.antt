@@ -5,7 +5,7 @@ use Rattle.steps.proofs.frame_on.Statement.{statement}
 use Rattle.steps.proofs.frame_on.Tie as tie
 
 returns : tie.Need-returns
-returns c = simp (eq-eqb _ _ (c .before .if1 .taken), c .next-frame .ensures)
+returns c = simp (eq-eqb _ _ (c .before .if1 .taken), c .frame-after .ensures)
 
 returns-2 : tie.Need-returns-2
 returns-2 c = simp (ne-eqb _ _ (c .if1 .left))
