@@ -1,0 +1,2 @@
+-- The numbers as document 01 has them.
+pub mod Numerals
