@@ -13,7 +13,7 @@ use Rattle.mask.specs.Occupancy.{lowest, Tells}
 use Rattle.mask.specs.declared.Found.the-variants.{At}
 use Rattle.mask.specs.declared.Occupancy.{Occupancy}
 use Rattle.mask.proofs.OccupancyLaws.{lowest-tells}
-use Rattle.dock.specs.Fit.{fitsWith}
+use Rattle.dock.specs.RowOne.{fitsWith}
 use Rattle.dock.specs.Requests.{givenOf, required}
 use Rattle.dock.specs.Start.{crowded, tooLong, startTests, startNo}
 use Rattle.dock.specs.declared.Endpoint.{Endpoint}

@@ -5,7 +5,7 @@ ghost use lib.Dec.{eqb, ltb};
 ghost use lib.ListN.{length};
 ghost use Rattle.mask.specs.Occupancy.{lowest};
 ghost use Rattle.sizes.specs.Sizes.{capacity, packetCount, packetsSize};
-ghost use Rattle.dock.specs.Fit.{fitsWith};
+ghost use Rattle.dock.specs.RowOne.{fitsWith};
 ghost use Rattle.dock.specs.Requests.{required};
 ghost use Rattle.dock.specs.Start.{crowded, sumOf, someOver, tooLong, isFull, beyond, startNo};
 use dock::Endpoint;

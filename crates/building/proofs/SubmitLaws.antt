@@ -21,9 +21,9 @@ use Rattle.dock.specs.Requests.{kindOf, recordFor}
 use Rattle.dock.specs.Start.{startNo, tooLong, idTaken, startedEndpoint, startedRecords}
 use Rattle.dock.specs.Submit.{submit}
 use Rattle.dock.proofs.RefusalLaws.{submit-acts, submit-refuses, submit-misfits}
-use Rattle.dock.proofs.AskedLaws.{few-packets}
+use Rattle.dock.proofs.StartPacketLaws.{few-packets}
 use Rattle.dock.proofs.StartLaws.{start-admitted, record-below}
-use Rattle.dock.proofs.StartedLaws.{place-low}
+use Rattle.dock.proofs.StartStoreLaws.{place-low}
 use Rattle.admission.specs.Admitted.{Admitted}
 use Rattle.starting.specs.Taken.{takenWith}
 use Rattle.starting.specs.declared.Begun.{Begun}

@@ -1,6 +1,6 @@
 // The next store of a submission: "each changing one slot only". "The last store answers the id and doorbell word (the dci)."
 ghost use mathlib.Core.Path.{_≡_};
-ghost use Rattle.dock.specs.Store.{store};
+ghost use Rattle.dock.specs.NextStore.{store};
 use dock::Endpoint;
 use dock::Stored;
 use dock::StoredOne;

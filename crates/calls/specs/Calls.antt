@@ -17,7 +17,7 @@ use Rattle.dock.specs.declared.StoredOne.{StoredOne}
 use Rattle.dock.specs.declared.Taken.{Taken}
 use Rattle.dock.specs.Configure.{configure}
 use Rattle.dock.specs.Start.{start}
-use Rattle.dock.specs.Store.{store}
+use Rattle.dock.specs.NextStore.{store}
 use Rattle.dock.specs.Submit.{submit}
 use Rattle.dock.specs.HandOver.{handOver}
 use Rattle.dock.specs.Reclaim.{reclaim}

@@ -1,4 +1,4 @@
--- What an endpoint that passes the shared tests has, as the callers need it, from the facts that the tests decide (`dock`, TestLaws). Assumes nothing.
+-- What an endpoint that passes the shared tests has, as the callers need it, from the facts that the tests decide (`dock`, RefusalTestLaws). Assumes nothing.
 use Prim.Native.Nat.{ℕ, _+_, _≤_, _<_}
 use mathlib.Core.Bool.{Bool, true, false, _&&_, false≢true}
 use mathlib.Core.List.{List}
@@ -9,12 +9,12 @@ use borrow.Author.Tests.{ltb-true}
 use lib.Dec.{eqb, ltb}
 use lib.ListN.{length}
 use Rattle.base.proofs.Decide.{if-so}
-use Rattle.dock.proofs.TestLaws.{Limits, PlaceFits, FirstFits, by-fits, by-fits-with}
+use Rattle.dock.proofs.RefusalTestLaws.{Limits, PlaceFits, FirstFits, by-fits, by-fits-with}
 use Rattle.sizes.specs.Sizes.{recordsSize, packetCount, control, bulk, interrupt, isoch}
 use Rattle.base.specs.First.{pick}
 use Rattle.records.specs.declared.Record.{Record}
-use Rattle.dock.specs.Fit.{fits, theLink, theTrb, theFirst, none, nextOf, strays, fitsWith}
-use Rattle.dock.specs.Stores.{trbCount, deferred}
+use Rattle.dock.specs.RowOne.{fits, theLink, theTrb, theFirst, none, nextOf, strays, fitsWith}
+use Rattle.dock.specs.Trbs.{trbCount, deferred}
 use Rattle.dock.specs.declared.Endpoint.{Endpoint}
 
 -- ---- an endpoint that fits

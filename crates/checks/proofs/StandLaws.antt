@@ -9,7 +9,7 @@ use lib.ListN.{length}
 use Rattle.base.proofs.Chosen.{quiet}
 use Rattle.checks.proofs.Laws.{fit, fit-with}
 use Rattle.dock.specs.Configure.{plainTests, plainNo}
-use Rattle.dock.specs.Fit.{fits, fitsWith}
+use Rattle.dock.specs.RowOne.{fits, fitsWith}
 use Rattle.sizes.specs.Sizes.{trbBytes, recordsSize}
 use Rattle.dock.specs.Reset.{beginTests, beginNo}
 use Rattle.dock.specs.Retire.{recordTests, recordNo}

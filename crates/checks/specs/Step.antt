@@ -1,5 +1,5 @@
 -- The next store as the code names it.
-use Rattle.dock.specs.Fit.{Next, theLink, theTrb, theFirst, none}
+use Rattle.dock.specs.RowOne.{Next, theLink, theTrb, theFirst, none}
 use Rattle.checks.specs.declared.Next as code
 use Rattle.checks.specs.declared.Next.the-variants.{Link, Trb, First, Nothing}
 

@@ -14,7 +14,7 @@ use Rattle.ids.specs.Free.{idAt}
 use Rattle.records.specs.Records.{inFlight, stopped, recordAt}
 use Rattle.dock.specs.declared.Account.{Account}
 use Rattle.dock.specs.Limits.{limitsHold}
-use Rattle.dock.specs.Fit.{flies}
+use Rattle.dock.specs.RowOne.{flies}
 use Rattle.dock.specs.Run.{State, Made, Call, after, Reached, made, next}
 
 -- ---- the invariant

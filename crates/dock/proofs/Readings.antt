@@ -19,8 +19,8 @@ use Rattle.packets.specs.Packets.{packetAt}
 use Rattle.dock.specs.declared.Stored.{Stored}
 use Rattle.dock.specs.declared.Stored.the-variants as storedAs
 use Rattle.dock.specs.Configure.{configure, plainNo, plainTests}
-use Rattle.dock.specs.Store.{store, storeNo, storeTests, stepped, slotStored, ringStored, finishedStored, settled, storedAnswer}
-use Rattle.dock.specs.Stores.{trbOf, trbCount, deferred, chained}
+use Rattle.dock.specs.NextStore.{store, storeNo, storeTests, stepped, slotStored, ringStored, finishedStored, settled, storedAnswer}
+use Rattle.dock.specs.Trbs.{trbOf, trbCount, deferred, chained}
 use Rattle.dock.specs.Worth.{Worth, bytes, refused, worth, counts}
 use Rattle.dock.specs.declared.Endpoint.{Endpoint}
 use Rattle.dock.specs.declared.Request.{Request}
@@ -28,8 +28,8 @@ use Rattle.dock.specs.declared.What.{What}
 use Rattle.dock.specs.declared.What.the-variants.{Control, Bulk, Isoch}
 use Rattle.sizes.specs.Sizes.{recordsSize, packetsSize}
 use Rattle.dock.specs.Limits.{limitsHold}
-use Rattle.dock.specs.Fit.{fits, placesFit, strays, fitsWith, nextOf}
-use Rattle.dock.specs.State.{fresh, withAccount, moved, idle}
+use Rattle.dock.specs.RowOne.{fits, placesFit, strays, fitsWith, nextOf}
+use Rattle.dock.specs.State.{fresh, withAccount, withStore, idle}
 use Rattle.dock.specs.Requests.{required}
 use Rattle.dock.specs.Start.{startNo, startTests, crowded, tooLong, beyond, charged, recordTaken, idTaken, startedEndpoint, startedRecords, writePackets, start}
 
@@ -171,7 +171,7 @@ w10 =
     && eqb (all .0 .at .place) 2 && not (all .0 .at .cycle) && not (all .0 .work .busy)
   where
     placed : Endpoint → Endpoint
-    placed e = moved e (record { place = 3; cycle = true }) 0 idle
+    placed e = withStore e (record { place = 3; cycle = true }) 0 idle
 
 -- The table.
 pub readings : List Bool

@@ -28,7 +28,7 @@ use Rattle.dock.specs.declared.Reclaimed.the-variants as answer
 use Rattle.dock.specs.declared.ReclaimedOne.{ReclaimedOne}
 use Rattle.dock.specs.Worth.{Worth, bytes, refused, worth, accepted}
 use Rattle.dock.specs.Reclaim.{leave, completeTests, completeAnswer, complete, nothing, codeOf, remainingOf, bulkBy, reclaimBulk, Seen, onward, ends, stageBy, statusBy, recordedBy, statusPlace, dataSeen, afterStage, recordsAfter, reclaimControl, counted, closeBelow, Swept, unfinished, fatal, found, sweptBy, sweptAt, sweep, sweptAnswer, reclaimIso, reclaimFlying, placeOf}
-use Rattle.dock.proofs.BooksLaws.{Alike, alike-same, alike-set}
+use Rattle.dock.proofs.ReachedBookLaws.{Alike, alike-same, alike-set}
 use Rattle.dock.proofs.RetireLaws.{picked}
 
 -- ---- the answer and the endpoint

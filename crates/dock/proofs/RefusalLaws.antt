@@ -29,7 +29,7 @@ use Rattle.dock.specs.declared.Taken.the-variants as taken
 use Rattle.dock.specs.Cancel.{cancelTests, cancelNo, cancel, marked}
 use Rattle.dock.specs.Commands.{resetWords, stopWords, dequeueWords, stop, resume, pointer}
 use Rattle.dock.specs.Configure.{plainTests, plainNo, configure}
-use Rattle.dock.specs.Fit.{nextOf}
+use Rattle.dock.specs.RowOne.{nextOf}
 use Rattle.dock.specs.HandOver.{handOverTests, handOverNo, handOver, slotNumber, slotFor}
 use Rattle.dock.specs.Make.{makeTests, makeNo, make, zeros}
 use Rattle.dock.specs.Reclaim.{reclaimTests, reclaimNo, reclaim, reclaimFound}
@@ -37,7 +37,7 @@ use Rattle.dock.specs.Reset.{beginTests, beginNo, beginReset, endTests, 
 use Rattle.dock.specs.Retire.{recordTests, recordNo, retiredBelow, retire}
 use Rattle.dock.specs.Start.{startTests, startNo, start, startedEndpoint, startedRecords, recordTaken, writePackets}
 use Rattle.dock.specs.State.{fresh, blank, withPeriodic, withFlags, withAccount}
-use Rattle.dock.specs.Store.{storeTests, storeNo, store, storedAnswer, stepped, settled, ringStored, finishedStored}
+use Rattle.dock.specs.NextStore.{storeTests, storeNo, store, storedAnswer, stepped, settled, ringStored, finishedStored}
 use Rattle.dock.specs.Submit.{submit, finish, mostStores, joined}
 
 pick-true : {A : Type 0} {b : Bool} (x y : A) → b ≡ true → pick b x y ≡ x

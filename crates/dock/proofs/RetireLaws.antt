@@ -19,10 +19,10 @@ use Rattle.ids.proofs.AnyLaws.{true-or-false, never-both}
 use Rattle.records.specs.Records.{inFlight, stopped, stateWord, recordAt, setWord}
 use Rattle.records.proofs.RecordLaws.{word-set, set-length}
 use Rattle.dock.specs.declared.Account.{Account}
-use Rattle.dock.specs.Fit.{flies}
+use Rattle.dock.specs.RowOne.{flies}
 use Rattle.dock.specs.Retire.{retiredBelow}
 use Rattle.dock.proofs.Reached.{flightPart, flightSum, Books}
-use Rattle.dock.proofs.BooksLaws.{by-flies, part-flies, part-none}
+use Rattle.dock.proofs.ReachedBookLaws.{by-flies, part-flies, part-none}
 
 -- A choice has a property that both sides have, each where the test leads to it.
 pub picked : {A : Type 0} (P : A → Type 0) (b : Bool) (x y : A) → (b ≡ true → P x) → (b ≡ false → P y) → P (pick b x y)

@@ -25,11 +25,11 @@ use Rattle.records.specs.Records.{recordAt, recordList}
 use Rattle.records.proofs.RecordLaws.{id-is, record-put, record-other}
 use Rattle.dock.specs.declared.Endpoint.{Endpoint}
 use Rattle.dock.specs.declared.Request.{Request}
-use Rattle.dock.specs.Fit.{fitsWith}
+use Rattle.dock.specs.RowOne.{fitsWith}
 use Rattle.dock.specs.Requests.{required, recordFor}
 use Rattle.dock.specs.Start.{startTests, startNo, crowded, tooLong, isFull, beyond, numberFrom, recordTaken, idTaken, charged, begun, startedEndpoint, startedRecords}
 use Rattle.dock.proofs.RefusalLaws.{start-exact}
-use Rattle.dock.proofs.TestLaws.{FitsWith, by-fits-with, by-crowded}
+use Rattle.dock.proofs.RefusalTestLaws.{FitsWith, by-fits-with, by-crowded}
 
 -- ---- what an admitted start may count on
 

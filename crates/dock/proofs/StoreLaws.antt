@@ -18,12 +18,12 @@ use Rattle.finished.specs.declared.Finished.the-variants.{Nothing}
 use Rattle.records.specs.declared.Record.{Record}
 use Rattle.finished.proofs.FinishedLaws.{cleared, others-kept}
 use Rattle.dock.specs.declared.Endpoint.{Endpoint}
-use Rattle.dock.specs.Fit.{Next, theLink, theTrb, theFirst, none, nextOf, isNone}
-use Rattle.dock.specs.Store.{storeNo, store, firstCycle, stepped, slotStored, ringStored, finishedStored}
-use Rattle.dock.specs.Stores.{trbOf, firstTrb, linkFor}
+use Rattle.dock.specs.RowOne.{Next, theLink, theTrb, theFirst, none, nextOf, isNone}
+use Rattle.dock.specs.NextStore.{storeNo, store, firstCycle, stepped, slotStored, ringStored, finishedStored}
+use Rattle.dock.specs.Trbs.{trbOf, firstTrb, linkFor}
 use Rattle.dock.proofs.RefusalLaws.{store-acts}
-use Rattle.dock.proofs.NextLaws.{Storing, store-admitted}
-use Rattle.dock.proofs.TestLaws.{Fits}
+use Rattle.dock.proofs.StoreNextLaws.{Storing, store-admitted}
+use Rattle.dock.proofs.RefusalTestLaws.{Fits}
 
 -- ---- one slot
 

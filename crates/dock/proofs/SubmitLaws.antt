@@ -13,7 +13,7 @@ use Rattle.dock.specs.declared.Stored.the-variants as store
 use Rattle.dock.specs.declared.StoredAll.{StoredAll}
 use Rattle.sizes.specs.Sizes.{ringSize}
 use Rattle.dock.specs.Start as starting
-use Rattle.dock.specs.Store as storing
+use Rattle.dock.specs.NextStore as storing
 use Rattle.dock.specs.Submit.{finish, mostStores, submit}
 use Rattle.dock.specs.Submit as submitting
 use Rattle.dock.specs.Run.{State, stateOf, starts, stores, submits, after}

@@ -13,11 +13,11 @@ use Rattle.sizes.specs.Sizes.{control, isoch}
 use Rattle.records.specs.declared.Record.{Record}
 use Rattle.dock.specs.declared.Endpoint.{Endpoint}
 use Rattle.dock.specs.declared.Shape.{Shape}
-use Rattle.dock.specs.Fit.{Next, theLink, theTrb, theFirst, none}
-use Rattle.dock.specs.State.{moved}
-use Rattle.dock.specs.Store.{worked, runOn, frameOn, stepped}
-use Rattle.dock.specs.Stores.{trbOf, setupTrb, deferred, firstTrb, chained, linkFor}
-use Rattle.dock.proofs.StepLaws.{step-keeps}
+use Rattle.dock.specs.RowOne.{Next, theLink, theTrb, theFirst, none}
+use Rattle.dock.specs.State.{withStore}
+use Rattle.dock.specs.NextStore.{withStored, runOn, frameOn, stepped}
+use Rattle.dock.specs.Trbs.{trbOf, setupTrb, deferred, firstTrb, chained, linkFor}
+use Rattle.dock.proofs.StoreStepLaws.{step-keeps}
 
 -- A control request's TD, and no other, is deferred.
 pub by-deferred : (v : Record) → Decides (deferred v) (v .kind ≡ control)
@@ -35,7 +35,7 @@ first-same a b v packets others late = first-setup a v packets late ∙ sym (fir
 
 -- The link is the same from the first store of a submission to its last.
 pub chain-worked : (e : Endpoint) (v : Record) (p : Position) (frame stored address : ℕ)
-    → chained (moved e p frame (worked (e .work) stored address)) v ≡ chained e v
+    → chained (withStore e p frame (withStored (e .work) stored address)) v ≡ chained e v
 unfolding chained
 chain-worked e v p frame stored address = refl
 

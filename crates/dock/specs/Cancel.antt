@@ -11,7 +11,7 @@ use Rattle.records.specs.Records.{inFlight, cancelledWord, recordAt, setWord}
 use Rattle.dock.specs.declared.Endpoint.{Endpoint}
 use Rattle.dock.specs.declared.Outcome.{Outcome}
 use Rattle.dock.specs.declared.Outcome.the-variants.{Done, Refused}
-use Rattle.dock.specs.Fit.{fitsWith}
+use Rattle.dock.specs.RowOne.{fitsWith}
 
 abbrev pub notFlying : List ℕ → Lookup → Bool
 notFlying records Nothing = true

@@ -7,7 +7,7 @@ use Rattle.base.specs.First.{pick, first}
 use Rattle.dock.specs.declared.Changed.{Changed}
 use Rattle.dock.specs.declared.Endpoint.{Endpoint}
 use Rattle.dock.specs.declared.Outcome.the-variants.{Done, Refused}
-use Rattle.dock.specs.Fit.{fits}
+use Rattle.dock.specs.RowOne.{fits}
 use Rattle.dock.specs.State.{withPeriodic}
 
 -- The refusals of a call that is lent no records: 1, then 12, "a submission's stores are under way".

@@ -14,7 +14,7 @@ use Rattle.finished.specs.Finished.{fillPlace}
 use Rattle.dock.specs.declared.Endpoint.{Endpoint}
 use Rattle.dock.specs.declared.Taken.{Taken}
 use Rattle.dock.specs.declared.Taken.the-variants.{Place, Refused}
-use Rattle.dock.specs.Fit.{fits}
+use Rattle.dock.specs.RowOne.{fits}
 use Rattle.sizes.specs.Sizes.{ringSize}
 
 abbrev pub isOutside : Slot → Bool
@@ -32,7 +32,7 @@ slotFor e w = slotOf (e .shape .base) (e .shape .slots) (eventOf w .address)
 -- Row 11: "event not type 32, other slot or endpoint id, or address not one of the L slots".
 unfoldable pub foreign : Endpoint → Words → Bool
 foreign e w =
-    not (eqb (eventOf w .kind) 32)
+    not (eqb (eventOf w .form) 32)
     || not (eqb (eventOf w .slot) (e .who .slot))
     || not (eqb (eventOf w .endpoint) (e .who .dci))
     || isOutside (slotFor e w)

@@ -2,12 +2,12 @@
 pub mod Limits
 pub mod State
 pub mod Requests
-pub mod Stores
-pub mod Fit
+pub mod Trbs
+pub mod RowOne
 pub mod Make
 pub mod Configure
 pub mod Start
-pub mod Store
+pub mod NextStore
 pub mod Submit
 pub mod HandOver
 pub mod Worth

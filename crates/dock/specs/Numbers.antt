@@ -26,21 +26,21 @@ Numbered = ℕ × List ℕ
 
 abbrev pub outcomeNumber : Outcome → Numbered
 outcomeNumber outcome.Done = (0, [])
-outcomeNumber (outcome.Refused number) = (number, [])
+outcomeNumber (outcome.Refused row) = (row, [])
 
 -- A store: its slot; the last also the id and the doorbell word.
 abbrev pub storedNumber : Stored → Numbered
 storedNumber (stored.Slot slot) = (0, slot ∷ [])
 storedNumber (stored.Last slot id bell) = (0, slot ∷ id ∷ bell ∷ [])
-storedNumber (stored.Refused number) = (number, [])
+storedNumber (stored.Refused row) = (row, [])
 
 abbrev pub submittedNumber : Submitted → Numbered
 submittedNumber (submitted.Done id bell) = (0, id ∷ bell ∷ [])
-submittedNumber (submitted.Refused number) = (number, [])
+submittedNumber (submitted.Refused row) = (row, [])
 
 abbrev pub takenNumber : Taken → Numbered
 takenNumber (taken.Place slot) = (0, slot ∷ [])
-takenNumber (taken.Refused number) = (number, [])
+takenNumber (taken.Refused row) = (row, [])
 
 -- A completion: id, length, yes; the packet lengths stand in the packet table. "8: completion code refused, with the code number."
 abbrev pub reclaimedNumber : Reclaimed → Numbered
@@ -49,18 +49,18 @@ reclaimedNumber reclaimed.Cancelled = (7, [])
 reclaimedNumber (reclaimed.Failed code) = (8, code ∷ [])
 reclaimedNumber reclaimed.Mismatch = (9, [])
 reclaimedNumber reclaimed.Nothing = (10, [])
-reclaimedNumber (reclaimed.Refused number) = (number, [])
+reclaimedNumber (reclaimed.Refused row) = (row, [])
 
 -- A reset: nothing to do, or the words of two commands.
 abbrev pub resettingNumber : Resetting → Numbered
 resettingNumber resetting.Clear = (0, [])
 resettingNumber (resetting.Commands first second) = (0, listed first ++ listed second)
-resettingNumber (resetting.Refused number) = (number, [])
+resettingNumber (resetting.Refused row) = (row, [])
 
 abbrev pub commandNumber : Command → Numbered
 commandNumber (command.Words w) = (0, listed w)
-commandNumber (command.Refused number) = (number, [])
+commandNumber (command.Refused row) = (row, [])
 
 abbrev pub pointedNumber : Pointed → Numbered
 pointedNumber (pointed.At p) = (0, p .address ∷ flag (p .cycle) ∷ [])
-pointedNumber (pointed.Refused number) = (number, [])
+pointedNumber (pointed.Refused row) = (row, [])

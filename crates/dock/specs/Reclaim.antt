@@ -25,7 +25,7 @@ use Rattle.dock.specs.declared.Endpoint.{Endpoint}
 use Rattle.dock.specs.declared.Reclaimed.{Reclaimed}
 use Rattle.dock.specs.declared.Reclaimed.the-variants as answer
 use Rattle.dock.specs.declared.ReclaimedOne.{ReclaimedOne}
-use Rattle.dock.specs.Fit.{fitsWith}
+use Rattle.dock.specs.RowOne.{fitsWith}
 use Rattle.dock.specs.Worth.{accepted, movedBytes, Worth, bytes, refused, worth}
 
 -- ---- leaving flight

@@ -11,7 +11,7 @@ use Rattle.dock.specs.declared.Endpoint.{Endpoint}
 use Rattle.dock.specs.declared.Outcome.the-variants.{Done, Refused}
 use Rattle.dock.specs.declared.Resetting.the-variants as resetting
 use Rattle.dock.specs.declared.ResetBegun.{ResetBegun}
-use Rattle.dock.specs.Fit.{fits, flies, fitsWith}
+use Rattle.dock.specs.RowOne.{fits, flies, fitsWith}
 use Rattle.dock.specs.State.{withFlags}
 use Rattle.dock.specs.Commands.{resetWords, dequeueWords}
 

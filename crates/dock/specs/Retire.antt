@@ -10,7 +10,7 @@ use Rattle.records.specs.Records.{stateWord, stopped, recordAt, setWord}
 use Rattle.dock.specs.declared.Changed.{Changed}
 use Rattle.dock.specs.declared.Endpoint.{Endpoint}
 use Rattle.dock.specs.declared.Outcome.the-variants.{Done, Refused}
-use Rattle.dock.specs.Fit.{flies, fitsWith}
+use Rattle.dock.specs.RowOne.{flies, fitsWith}
 use Rattle.dock.specs.State.{withAccount}
 
 -- The refusals of a call that is lent the records: 1, then 12.

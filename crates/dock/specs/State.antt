@@ -59,8 +59,8 @@ withWork e a w =
     record { at = e .at; shape = e .shape; who = e .who; periodic = e .periodic; account = a; flags = e .flags; work = w }
 
 -- What a store changes: position, next frame, and the submission under way.
-abbrev pub moved : Endpoint → Position → ℕ → Work → Endpoint
-moved e p frame w =
+abbrev pub withStore : Endpoint → Position → ℕ → Work → Endpoint
+withStore e p frame w =
     record {
       at = p;
       shape = e .shape;

@@ -12,7 +12,7 @@ use Rattle.dock.specs.declared.StoredAll.{StoredAll}
 use Rattle.dock.specs.declared.Submitted.the-variants as submitted
 use Rattle.dock.specs.Requests.{required}
 use Rattle.dock.specs.Start.{start}
-use Rattle.dock.specs.Store.{store}
+use Rattle.dock.specs.NextStore.{store}
 use Rattle.sizes.specs.Sizes.{ringSize}
 use lib.Dec.{eqb}
 use lib.ListN.{length}
@@ -22,7 +22,7 @@ use mathlib.Core.Bool.{_&&_}
 abbrev pub afterStore : Stored → Endpoint → List ℕ → List ℕ → (Endpoint → List ℕ → List ℕ → StoredAll × List ℕ × List ℕ) → StoredAll × List ℕ × List ℕ
 afterStore (stored.Slot slot) e ring finished more = more e ring finished
 afterStore (stored.Last slot id bell) e ring finished more = (record { answer = submitted.Done id bell; endpoint = e }, ring, finished)
-afterStore (stored.Refused number) e ring finished more = (record { answer = submitted.Refused number; endpoint = e }, ring, finished)
+afterStore (stored.Refused row) e ring finished more = (record { answer = submitted.Refused row; endpoint = e }, ring, finished)
 
 -- The stores that are left, in order, at most so many.
 unfoldable pub finish : ℕ → Endpoint → List ℕ → List ℕ → List ℕ → List ℕ → StoredAll × List ℕ × List ℕ
@@ -41,8 +41,8 @@ joined s records packets = (s .0, s .1, s .2, records, packets)
 
 abbrev pub afterStart : Outcome → Endpoint → ℕ → List ℕ → List ℕ → List ℕ → List ℕ → StoredAll × List ℕ × List ℕ × List ℕ × List ℕ
 afterStart Done e most ring finished records packets = joined (finish most e ring finished records packets) records packets
-afterStart (Refused number) e most ring finished records packets =
-    (record { answer = submitted.Refused number; endpoint = e }, ring, finished, records, packets)
+afterStart (Refused row) e most ring finished records packets =
+    (record { answer = submitted.Refused row; endpoint = e }, ring, finished, records, packets)
 
 -- The start is refused also where the ring or the finished table has a wrong size: then no store could follow.
 unfoldable pub submit : Endpoint → List ℕ → List ℕ → List ℕ → List ℕ → Request → List ℕ → StoredAll × List ℕ × List ℕ × List ℕ × List ℕ

@@ -12,7 +12,7 @@ use Rattle.dock.specs.Reclaim.{reclaim}
 use Rattle.dock.specs.Reset.{beginReset, endReset}
 use Rattle.dock.specs.Retire.{retire}
 use Rattle.dock.specs.Start.{start}
-use Rattle.dock.specs.Store.{store}
+use Rattle.dock.specs.NextStore.{store}
 use Rattle.dock.specs.Submit.{submit}
 use Rattle.loaded.specs.State.{Narrow, load}
 use Rattle.told.specs.Request.{isRequest, requestOf}

@@ -28,14 +28,14 @@ pub fn words_of(trb: Trb, cycle: bool) -> Words
             w3: word::normal(cycle, short, chain, interrupt),
         },
         Trb::Setup {
-            kind,
+            request_type,
             request,
             value,
             index,
             length,
             transfer,
         } => Words {
-            w0: word::request(kind, request, value),
+            w0: word::request(request_type, request, value),
             w1: word::index(index, length),
             w2: 8,
             w3: word::setup(cycle, transfer),

@@ -16,7 +16,7 @@ pub event-reads : (e : Event) (cycle : Bool) → EventFits e → eventOf (wordsI
 event-reads e cycle fits =
     let l = eventLayout e cycle in
     rw (
-      read-back-exact 0 32 (l .w3) 1 refl (omega arith) (fits .kind),
+      read-back-exact 0 32 (l .w3) 1 refl (omega arith) (fits .form),
       read-back-exact 0 32 (l .w3) 3 refl (omega arith) (fits .slot),
       read-back-exact 0 32 (l .w3) 2 refl (omega arith) (fits .endpoint),
       halves (e .address) (fits .address),

@@ -11,7 +11,7 @@ use Rattle.trb.specs.Layouts.{Layout, addressLow, addressHigh}
 abbrev pub eventOf : Words → Event
 eventOf w =
     record {
-      kind = bits 10 6 (w .w3);
+      form = bits 10 6 (w .w3);
       slot = bits 24 8 (w .w3);
       endpoint = bits 16 5 (w .w3);
       address = w .w0 + w .w1 * 2 ^ 32;
@@ -26,12 +26,12 @@ eventLayout e cycle =
       w0 = addressLow (e .address);
       w1 = addressHigh (e .address);
       w2 = field 0 24 (e .remaining) ∷ field 24 8 (e .code) ∷ [];
-      w3 = field 0 1 (flag cycle) ∷ field 10 6 (e .kind) ∷ field 16 5 (e .endpoint) ∷ field 24 8 (e .slot) ∷ [];
+      w3 = field 0 1 (flag cycle) ∷ field 10 6 (e .form) ∷ field 16 5 (e .endpoint) ∷ field 24 8 (e .slot) ∷ [];
     }
 
 -- Each value fits its field.
 pub record EventFits (e : Event) : Type 0 where
-  pub kind : e .kind < 2 ^ 6
+  pub form : e .form < 2 ^ 6
   pub slot : e .slot < 2 ^ 8
   pub endpoint : e .endpoint < 2 ^ 5
   pub address : e .address < 2 ^ 64

@@ -5,7 +5,7 @@ use trb::Words;
 
 // What a transfer event says: its type, of which slot and endpoint, at which TRB, the bytes remaining and the completion code.
 pub struct Event {
-    pub kind: u32,
+    pub form: u32,
     pub slot: u32,
     pub endpoint: u32,
     pub address: u64,
@@ -17,7 +17,7 @@ pub fn event_of(w: Words) -> Event
     ensures { λ r. ⌜ r ≡ eventOf w ⌝ }
 {
     Event {
-        kind: w.w3 / 0x400 % 64,
+        form: w.w3 / 0x400 % 64,
         slot: w.w3 / 0x100_0000 % 256,
         endpoint: w.w3 / 0x1_0000 % 32,
         address: w.w0 as u64 + w.w1 as u64 * 0x1_0000_0000,

@@ -17,7 +17,7 @@ use Rattle.dock.specs.declared.Endpoint.{Endpoint}
 use Rattle.dock.specs.declared.Outcome.the-variants.{Refused}
 use Rattle.dock.specs.declared.Request.{Request}
 use Rattle.dock.specs.declared.What.the-variants.{Isoch}
-use Rattle.dock.specs.Fit.{fitsWith}
+use Rattle.dock.specs.RowOne.{fitsWith}
 use Rattle.sizes.specs.Sizes.{packetsSize}
 use Rattle.dock.specs.Requests.{withWhat}
 use Rattle.dock.specs.Start.{crowded, startTests, startNo, start}

@@ -12,7 +12,7 @@ use Rattle.trb.specs.declared.Trb.{Trb}
 use Rattle.ring.specs.declared.Position.{Position}
 use Rattle.dock.specs.declared.Periodic.{Periodic}
 use Rattle.dock.specs.declared.Shape.{Shape}
-use Rattle.dock.specs.Stores.{packetTrb, frameAfter}
+use Rattle.dock.specs.Trbs.{packetTrb, frameAfter}
 use Rattle.isoch.specs.declared.Pen.{Pen}
 use Rattle.isoch.specs.Packed.{penOn, packetPut, packetsPut, allPut}
 use Rattle.striding.specs.Stride.{putTrb}

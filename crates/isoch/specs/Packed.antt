@@ -8,7 +8,7 @@ use Rattle.bursts.specs.Bursts.{burstsOf}
 use Rattle.ring.specs.declared.Position.{Position}
 use Rattle.dock.specs.declared.Periodic.{Periodic}
 use Rattle.dock.specs.declared.Shape.{Shape}
-use Rattle.dock.specs.Stores.{packetTrb, frameAfter}
+use Rattle.dock.specs.Trbs.{packetTrb, frameAfter}
 use Rattle.isoch.specs.declared.Pen.{Pen}
 use Rattle.striding.specs.Deferred.{putSame}
 

@@ -135,8 +135,8 @@ pub record Narrow (e : Endpoint) : Type 0 where
 
 -- The answers that change the endpoint. Document 01, "When the dock says no": row 0, and rows 7, 8 and 9, which free a record.
 unfoldable pub moves : ℕ → Bool
-moves number = eqb number 0 || (leb 7 number && ltb number 10)
+moves row = eqb row 0 || (leb 7 row && ltb row 10)
 
 -- The words after an answer.
 unfoldable pub kept : ℕ → List ℕ → Endpoint → List ℕ
-kept number words e = pick (moves number) (save e) words
+kept row words e = pick (moves row) (save e) words

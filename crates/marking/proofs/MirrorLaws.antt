@@ -24,9 +24,9 @@ use Rattle.packets.specs.declared.Packet.{Packet}
 use Rattle.records.specs.declared.Record.{Record}
 use Rattle.dock.specs.Reclaim.{codeOf, remainingOf, placeOf, counted, closeBelow, Swept, fatal, found, sweptBy as dockSwept, sweptAt, sweep}
 use Rattle.dock.specs.Worth.{Worth, bytes, refused, worth}
-use Rattle.dock.proofs.NeededLaws.{first-place}
+use Rattle.dock.proofs.ReclaimNeedLaws.{first-place}
 use Rattle.dock.proofs.RetireLaws.{picked}
-use Rattle.dock.proofs.SettledLaws.{close-behind}
+use Rattle.dock.proofs.ReclaimSettleLaws.{close-behind}
 use Rattle.marking.specs.declared.Block.{Block}
 use Rattle.marking.specs.declared.Standing.{Standing}
 use Rattle.marking.specs.declared.Turned.{Turned}

@@ -15,7 +15,7 @@ use Rattle.base.proofs.Compare.{lt-or-le, same-or-not}
 use Rattle.base.proofs.Decide.{by-ltb, both}
 use Rattle.bursts.specs.Bursts.{burstsOf}
 use Rattle.trb.specs.Cycle.{typeOf}
-use Rattle.trb.specs.Layouts.{kindOf}
+use Rattle.trb.specs.Layouts.{typeNumber}
 use Rattle.trb.specs.declared.Trb.{Trb}
 use Rattle.trb.specs.declared.Trb.the-variants.{Setup, Status, Isoch}
 use Rattle.trb.proofs.LayoutLaws.{type-is}
@@ -29,15 +29,15 @@ use Rattle.dock.specs.declared.Periodic.{Periodic}
 use Rattle.dock.specs.declared.Request.{Request}
 use Rattle.dock.specs.declared.What.{What}
 use Rattle.dock.specs.declared.What.the-variants as asks
-use Rattle.dock.specs.Fit.{theTrb}
+use Rattle.dock.specs.RowOne.{theTrb}
 use Rattle.dock.specs.Requests.{countFor, bufferOf, required, withWhat, recordFor}
 use Rattle.dock.specs.Start.{tooLong, atLeastOne, writePackets}
-use Rattle.dock.specs.Store.{stepped}
-use Rattle.dock.specs.Stores.{trbCount, trbOf}
-use Rattle.dock.proofs.AskedLaws.{packet-short, packet-written}
+use Rattle.dock.specs.NextStore.{stepped}
+use Rattle.dock.specs.Trbs.{trbCount, trbOf}
+use Rattle.dock.proofs.StartPacketLaws.{packet-short, packet-written}
 use Rattle.dock.proofs.RetireLaws.{picked}
-use Rattle.dock.proofs.StartedLaws.{count-is}
-use Rattle.dock.proofs.TestLaws.{by-too-long-control, by-too-long-bulk, by-too-long-interrupt}
+use Rattle.dock.proofs.StartStoreLaws.{count-is}
+use Rattle.dock.proofs.RefusalTestLaws.{by-too-long-control, by-too-long-bulk, by-too-long-interrupt}
 use Rattle.order.specs.Flat.{flat, linkType}
 use Rattle.order.specs.Model.{Plain}
 use Rattle.promise.specs.Requested.{stored, some, controlTrbs, normalTrbs, isochTrbs, trbsFor, trbsOf, typed}
@@ -263,7 +263,7 @@ trbs-count p request lengths = counted (request .what) (request .address) (reque
 
 -- ---- none is a link
 
-plain-trb : (t : Trb) → (kindOf t ≡ 6 → ⊥) → linkType (bare t) ≡ false
+plain-trb : (t : Trb) → (typeNumber t ≡ 6 → ⊥) → linkType (bare t) ≡ false
 unfolding linkType
 plain-trb t other = ne-eqb (typeOf (bare t)) 6 (λ q. other (sym (type-is t false) ∙ q))
 

@@ -9,7 +9,7 @@ use lib.ListN.{length, length-append}
 use Rattle.mask.specs.declared.Occupancy.{Occupancy}
 use Rattle.sizes.specs.Sizes.{recordCount}
 use Rattle.trb.specs.declared.Words.{Words}
-use Rattle.dock.proofs.BooksLaws.{by-flies, part-flies}
+use Rattle.dock.proofs.ReachedBookLaws.{by-flies, part-flies}
 use Rattle.dock.proofs.Reached.{flightPart, flightSum, Sound}
 use Rattle.order.specs.Flat.{flat}
 use Rattle.order.specs.Model.{layout}

@@ -28,15 +28,15 @@ use Rattle.dock.specs.declared.What.{What}
 use Rattle.dock.specs.declared.What.the-variants.{Control, Bulk, Isoch}
 use Rattle.dock.specs.Cancel.{cancel, cancelNo, cancelTests}
 use Rattle.dock.specs.Configure.{configure, plainNo, plainTests}
-use Rattle.dock.specs.Fit.{fits, placesFit, strays, fitsWith, nextOf}
+use Rattle.dock.specs.RowOne.{fits, placesFit, strays, fitsWith, nextOf}
 use Rattle.dock.specs.HandOver.{slotFor, foreign, handOverTests, handOverNo, handOver}
 use Rattle.dock.specs.Limits.{limitsHold}
 use Rattle.dock.specs.Make.{sized, makeTests, makeNo, make}
 use Rattle.dock.specs.Reclaim.{leave, mismatched, completeTests, complete, placeOf, reclaimBulk, reclaimControl, closeBelow, total, sweep, reclaimIso, reclaimTests, reclaimNo, reclaimFlying, reclaim}
 use Rattle.dock.specs.Run.{madeOf, making, configures, starts, stores, reclaims, cancels}
 use Rattle.dock.specs.Start.{startNo, startTests, crowded, tooLong, beyond, charged, recordTaken, idTaken, startedEndpoint, startedRecords, writePackets, start}
-use Rattle.dock.specs.Store.{store, storeNo, storeTests, stepped, slotStored, ringStored, finishedStored, settled, storedAnswer}
-use Rattle.dock.specs.Stores.{trbOf, trbCount, deferred, chained}
+use Rattle.dock.specs.NextStore.{store, storeNo, storeTests, stepped, slotStored, ringStored, finishedStored, settled, storedAnswer}
+use Rattle.dock.specs.Trbs.{trbOf, trbCount, deferred, chained}
 use Rattle.dock.specs.Worth.{accepted, counts, worth}
 use Rattle.promise.specs.Controller.{Entry, does}
 use Rattle.promise.specs.Run.{World, fromMaking, admitted, Move, calls, hands, steps, act, may, admits, takes, isFor, handed, play, allowed, Run, made, andThen}
@@ -52,7 +52,7 @@ asking what address size = record { what = what; address = address; length = siz
 
 -- A bulk request of 64 bytes whose n-th TRB of the run is at a slot, from its start to its reclaim under an id.
 abbrev bulk : ℕ → ℕ → ℕ → List Move
-bulk number slot id = calls (starts (asking (Bulk true) 0x30000 64) []) ∷ calls stores ∷ steps ∷ hands (event slot) number ∷ calls (reclaims id) ∷ []
+bulk nth slot id = calls (starts (asking (Bulk true) 0x30000 64) []) ∷ calls stores ∷ steps ∷ hands (event slot) nth ∷ calls (reclaims id) ∷ []
 
 -- The control request, a step of the controller after each of its five stores, a call that is refused in between, and its end.
 abbrev control : List Move

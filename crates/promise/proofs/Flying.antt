@@ -24,10 +24,10 @@ use Rattle.dock.specs.declared.Account.{Account}
 use Rattle.dock.specs.declared.Endpoint.{Endpoint}
 use Rattle.dock.specs.Cancel.{marked, cancelNo, cancelTests}
 use Rattle.dock.specs.Configure.{plainNo, plainTests}
-use Rattle.dock.specs.Fit.{flies}
-use Rattle.dock.proofs.BooksLaws.{by-flies, Alike, alike-same, alike-set, flies-alike, still-held, freed-other}
-use Rattle.dock.proofs.InvariantLaws.{marked-alike}
-use Rattle.dock.proofs.NothingLaws.{RecordsAfter}
+use Rattle.dock.specs.RowOne.{flies}
+use Rattle.dock.proofs.ReachedBookLaws.{by-flies, Alike, alike-same, alike-set, flies-alike, still-held, freed-other}
+use Rattle.dock.proofs.ReachedSoundLaws.{marked-alike}
+use Rattle.dock.proofs.ReclaimLeaveLaws.{RecordsAfter}
 use Rattle.dock.specs.Run.{stateOf, configures, cancels}
 use Rattle.dock.proofs.RefusalLaws.{plain-exact, configure-acts, configure-refuses, cancel-exact, cancel-acts, cancel-refuses}
 use Rattle.promise.specs.Run.{World, withDock, calls, act}

@@ -32,18 +32,18 @@ use Rattle.dock.specs.declared.ReclaimedOne.{ReclaimedOne}
 use Rattle.dock.specs.declared.Request.{Request}
 use Rattle.dock.specs.Cancel.{cancel, cancelNo}
 use Rattle.dock.specs.Configure.{configure, plainNo}
-use Rattle.dock.specs.Fit.{flies, Next, theLink, theTrb, theFirst, isNone}
-use Rattle.dock.specs.Fit as fit
+use Rattle.dock.specs.RowOne.{flies, Next, theLink, theTrb, theFirst, isNone}
+use Rattle.dock.specs.RowOne as fit
 use Rattle.dock.specs.Reclaim.{codeOf, leave, nothing, reclaim}
 use Rattle.dock.specs.Start.{recordTaken, startNo, startedEndpoint, startedRecords}
-use Rattle.dock.specs.Store.{slotStored, storeNo}
-use Rattle.dock.specs.Stores.{trbCount}
+use Rattle.dock.specs.NextStore.{slotStored, storeNo}
+use Rattle.dock.specs.Trbs.{trbCount}
 use Rattle.dock.specs.Worth.{accepted}
-use Rattle.dock.proofs.BooksLaws.{by-flies, flies-alike, freed-other}
-use Rattle.dock.proofs.FitLaws.{store-number}
-use Rattle.dock.proofs.InvariantLaws.{Untouched, Looked, reclaim-result, marked-alike}
-use Rattle.dock.proofs.NextLaws.{because, store-admitted}
-use Rattle.dock.proofs.OnceLaws.{outstanding-is-sum}
+use Rattle.dock.proofs.ReachedBookLaws.{by-flies, flies-alike, freed-other}
+use Rattle.dock.proofs.ReachedFitLaws.{store-number}
+use Rattle.dock.proofs.ReachedSoundLaws.{Untouched, Looked, reclaim-result, marked-alike}
+use Rattle.dock.proofs.StoreNextLaws.{because, store-admitted}
+use Rattle.dock.proofs.ReclaimOnceLaws.{outstanding-is-sum}
 use Rattle.dock.proofs.Reached.{Sound, flightPart, flightSum}
 use Rattle.dock.specs.Run.{Call, configures, starts, stores, submits, reclaims, cancels, retires, begins, ends, stops, resumes, points, after}
 use Rattle.dock.specs.Run as dock
@@ -51,7 +51,7 @@ use Rattle.dock.proofs.ReclaimLaws.{Left}
 use Rattle.dock.proofs.RefusalLaws.{start-acts, start-refuses, store-refuses}
 use Rattle.dock.proofs.RetireLaws.{picked}
 use Rattle.dock.proofs.StartLaws.{record-free, record-taken, records-kept}
-use Rattle.dock.proofs.StepLaws.{store-keeps}
+use Rattle.dock.proofs.StoreStepLaws.{store-keeps}
 use Rattle.dock.proofs.StoreLaws.{nextStore, slotChanged}
 use Rattle.order.specs.Flat.{flat}
 use Rattle.order.proofs.Index.{pos, slot-lt, distinct}
@@ -131,11 +131,11 @@ module _ (w : World) (k : Kept w) where
 
 -- It is for TRB number `number`.
 pub record EventOf (w : World) (i : ℕ) (event : Words) : Type 0 where
-  pub number : ℕ
-  pub there : slotOf (slots w) number ≡ i
-  pub stored : number < storedCount w
-  pub latest : (j : ℕ) → j < storedCount w → slotOf (slots w) j ≡ i → j ≤ number
-  pub consumed : number < length (w .consumed)
+  pub nth : ℕ
+  pub there : slotOf (slots w) nth ≡ i
+  pub stored : nth < storedCount w
+  pub latest : (j : ℕ) → j < storedCount w → slotOf (slots w) j ≡ i → j ≤ nth
+  pub consumed : nth < length (w .consumed)
   pub coded : accepted (codeOf event) ≡ true
 
 pub event-latest : {w : World} → Run w → (i : ℕ) (event : Words) → i < slots w - 1 → finishedAt (w .dock .finished) i ≡ Event event
@@ -145,7 +145,7 @@ event-latest {w} r i event below said =
     let l = k .places i event (omega (arith, k .shape)) said in
     let count = stored-is w k in
     record {
-      number = l .latest;
+      nth = l .latest;
       there = slot-is w k (l .latest) ∙ l .there;
       stored = omega (arith, l .was-stored);
       latest = λ j was at.
@@ -213,8 +213,8 @@ module _ {w : World} (r : Run w) (busy : w .dock .endpoint .work .busy ≡ true)
   some-store : isNone now ≡ false
   some-store =
       let d = w .dock in
-      let number = store-number (run-reached r) ∙ ap (λ (b : Bool). pick b 0 10) busy in
-      store-admitted (d .endpoint) (d .ring) (d .finished) (d .records) (d .packets) number .course .more
+      let row = store-number (run-reached r) ∙ ap (λ (b : Bool). pick b 0 10) busy in
+      store-admitted (d .endpoint) (d .ring) (d .finished) (d .records) (d .packets) row .course .more
 
   by-next : (n : Next) → now ≡ n → (j < length (w .consumed)) ⊎ ((now ≡ theFirst) × (j ≡ firstUnderWay w))
   by-next theLink q = absurd (not-link w (run-kept r) busy j was (because (w .dock .endpoint) (recordUnderWay w) theLink q) (same ∙ slot-of-link w q))
@@ -347,5 +347,5 @@ pub leaves-consumed : {w : World} → Run w → (m : Move) → ofRuns m ≡ true
     → w .first r + recordAt (w .dock .records) r .count ≤ length (w .consumed)
 unfolding handed stepped
 leaves-consumed run (calls c) its r fly gone = call-consumed run c its r fly gone
-leaves-consumed run (hands event number) its r fly gone = absurd (false≢true (sym gone ∙ fly))
+leaves-consumed run (hands event nth) its r fly gone = absurd (false≢true (sym gone ∙ fly))
 leaves-consumed run steps its r fly gone = absurd (false≢true (sym gone ∙ fly))

@@ -27,7 +27,7 @@ use Rattle.dock.specs.Worth.{accepted}
 use Rattle.dock.proofs.Reached.{Sound}
 use Rattle.dock.specs.Run.{stateOf}
 use Rattle.dock.proofs.RefusalLaws.{hand-over-exact, hand-over-refuses, hand-over-acts}
-use Rattle.dock.proofs.TestLaws.{by-foreign}
+use Rattle.dock.proofs.RefusalTestLaws.{by-foreign}
 use Rattle.order.specs.Flat.{flat}
 use Rattle.order.specs.Model.{idle}
 use Rattle.order.specs.Model as model
@@ -78,7 +78,7 @@ latest-heard K stored heard more i event h l = record {
 -- ---- an event that is taken
 
 -- An event of type 32 has a fourth word.
-typed-word : (event : Words) → ((eventOf event .kind ≡ 32 → ⊥) → ⊥) → event .w3 ≡ 0 → ⊥
+typed-word : (event : Words) → ((eventOf event .form ≡ 32 → ⊥) → ⊥) → event .w3 ≡ 0 → ⊥
 typed-word event t z = t (λ e. omega arith)
 
 same-event : (a b : Words) → Event a ≡ Event b → a ≡ b

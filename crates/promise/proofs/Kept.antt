@@ -22,10 +22,10 @@ use Rattle.records.specs.Records.{recordAt}
 use Rattle.finished.specs.declared.Finished.the-variants.{Event}
 use Rattle.records.specs.declared.Record.{Record}
 use Rattle.dock.specs.declared.Endpoint.{Endpoint}
-use Rattle.dock.specs.Fit.{flies, theTrb}
+use Rattle.dock.specs.RowOne.{flies, theTrb}
 use Rattle.dock.specs.Reclaim.{codeOf}
-use Rattle.dock.specs.Store.{stepped}
-use Rattle.dock.specs.Stores.{trbCount, trbOf, deferred, firstTrb, linkFor}
+use Rattle.dock.specs.NextStore.{stepped}
+use Rattle.dock.specs.Trbs.{trbCount, trbOf, deferred, firstTrb, linkFor}
 use Rattle.dock.specs.Worth.{accepted}
 use Rattle.order.specs.Flat.{flat}
 use Rattle.order.specs.Model.{idle, opening, busy, placed}

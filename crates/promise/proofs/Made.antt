@@ -20,11 +20,11 @@ use Rattle.dock.specs.declared.Outcome.the-variants.{Done}
 use Rattle.dock.specs.declared.Shape.{Shape}
 use Rattle.dock.specs.Make.{make, makeNo, makeTests, zeros}
 use Rattle.dock.specs.State.{fresh}
-use Rattle.dock.proofs.BooksLaws.{by-flies}
-use Rattle.dock.proofs.InvariantLaws.{not-done}
+use Rattle.dock.proofs.ReachedBookLaws.{by-flies}
+use Rattle.dock.proofs.ReachedSoundLaws.{not-done}
 use Rattle.dock.specs.Run.{State, stateOf, madeOf, Made, making}
 use Rattle.dock.proofs.RefusalLaws.{make-exact, make-refuses, make-acts}
-use Rattle.dock.proofs.TestLaws.{by-limits, by-sized}
+use Rattle.dock.proofs.RefusalTestLaws.{by-limits, by-sized}
 use Rattle.order.specs.Flat.{flat, getD-zeros, zeroed}
 use Rattle.order.specs.Model.{idle}
 use Rattle.order.specs.Model as model
@@ -38,7 +38,7 @@ empty : (n i : ℕ) → finishedAt (replicate n 0) i ≡ Nothing
 unfolding finishedAt
 empty n i = rw (getD-zeros n (4 * i + 3))
 
--- and a slot of zeros is no link.
+-- and a slot of zeros is row link.
 zero-type : (n i : ℕ) → typeOf (wordsAt (replicate n 0) i) ≡ 0
 unfolding typeOf wordsAt
 zero-type n i = rw (getD-zeros n (4 * i + 3))
@@ -47,10 +47,10 @@ pub never-event : (event : Words) → Nothing ≡ Event event → ⊥
 never-event event e = let z : _≡_ {A = ℕ} 0 1 = cc in omega arith
 
 module _ (ring finished records packets : List ℕ) (shape : Shape) (who : Identity) where
-  abbrev number : ℕ
-  number = makeNo (length ring) (length finished) (length records) (length packets) shape who
+  abbrev row : ℕ
+  row = makeNo (length ring) (length finished) (length records) (length packets) shape who
 
-  fresh-kept : number ≡ 0 → Kept (fromMaking (stateOf (fresh shape who) (zeros ring) (zeros finished) (zeros records) (zeros packets)))
+  fresh-kept : row ≡ 0 → Kept (fromMaking (stateOf (fresh shape who) (zeros ring) (zeros finished) (zeros records) (zeros packets)))
   unfolding makeTests model.made
   fresh-kept passed =
       let tests = make-exact ring finished records packets shape who .passed passed in
@@ -83,10 +83,10 @@ module _ (ring finished records packets : List ℕ) (shape : Shape) (who : Ident
       → Kept (fromMaking (madeOf (make ring finished records packets shape who)))
   done-kept done =
       ⊎-elim
-      (λ (p : number ≡ 0). rw (make-acts ring finished records packets shape who p) (fresh-kept p))
-      (λ (p : number ≡ 0 → ⊥).
-      absurd (not-done number (sym (ap (λ m. m .0 .answer) (make-refuses ring finished records packets shape who p)) ∙ done)))
-      (same-or-not number 0)
+      (λ (p : row ≡ 0). rw (make-acts ring finished records packets shape who p) (fresh-kept p))
+      (λ (p : row ≡ 0 → ⊥).
+      absurd (not-done row (sym (ap (λ m. m .0 .answer) (make-refuses ring finished records packets shape who p)) ∙ done)))
+      (same-or-not row 0)
 
 pub made-kept : (d : State) → Made d → Kept (fromMaking d)
 made-kept d (making ring finished records packets shape who done) = done-kept ring finished records packets shape who done

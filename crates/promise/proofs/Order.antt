@@ -14,7 +14,7 @@ use native.Mathlib.Omega.{arith}
 use lib.ListN.{length, take}
 use Rattle.base.proofs.Decide.{if-so}
 use Rattle.sizes.specs.Sizes.{control}
-use Rattle.dock.specs.Stores.{trbCount, deferred}
+use Rattle.dock.specs.Trbs.{trbCount, deferred}
 use Rattle.dock.proofs.TdLaws.{by-deferred}
 use Rattle.order.specs.Flat.{flat}
 use Rattle.order.specs.Model.{Deferring}

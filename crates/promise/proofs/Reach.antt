@@ -1,7 +1,7 @@
 -- Every state that a run reaches is one that the dock's calls reach, and has the invariant. Assumes nothing.
 use mathlib.Core.Bool.{true, false≢true}
 use mathlib.Core.Path.{_≡_, refl, sym, subst}
-use Rattle.dock.proofs.InvariantLaws.{reached-sound}
+use Rattle.dock.proofs.ReachedSoundLaws.{reached-sound}
 use Rattle.dock.proofs.Reached.{Sound}
 use Rattle.dock.specs.Run.{State, Call, configures, starts, stores, submits, reclaims, cancels, retires, begins, ends, stops, resumes, points, Reached, next}
 use Rattle.dock.specs.Run as dock
@@ -26,7 +26,7 @@ booked-dock w d outside = refl
 act-reached : (w : World) (m : Move) → Reached (w .dock) → Reached (act w m .dock)
 unfolding handed stepped
 act-reached w (calls c) r = subst Reached (sym (booked-dock w _ (part c))) (next r c)
-act-reached w (hands event number) r = next r (dock.hands event)
+act-reached w (hands event nth) r = next r (dock.hands event)
 act-reached w steps r = r
 
 pub run-reached : {w : World} → Run w → Reached (w .dock)
@@ -53,7 +53,7 @@ call-kept w points h k allowed = k
 
 pub act-kept : (w : World) (m : Move) → Sound (w .dock) → Kept w → may w m ≡ true → Kept (act w m)
 act-kept w (calls c) h k allowed = call-kept w c h k allowed
-act-kept w (hands event number) h k allowed = handed-kept w event number h k allowed
+act-kept w (hands event nth) h k allowed = handed-kept w event nth h k allowed
 act-kept w steps h k allowed = stepped-kept w k
 
 pub run-kept : {w : World} → Run w → Kept w

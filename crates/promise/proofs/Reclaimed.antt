@@ -24,12 +24,12 @@ use Rattle.records.specs.Records.{inFlight, stopped, recordAt}
 use Rattle.records.specs.declared.Record.{Record}
 use Rattle.dock.specs.declared.Endpoint.{Endpoint}
 use Rattle.dock.specs.declared.ReclaimedOne.{ReclaimedOne}
-use Rattle.dock.specs.Fit.{flies}
+use Rattle.dock.specs.RowOne.{flies}
 use Rattle.dock.specs.Reclaim.{leave, nothing, placeOf, reclaimFlying, reclaimFound, reclaim}
-use Rattle.dock.proofs.BooksLaws.{by-flies, freed-sum}
-use Rattle.dock.proofs.InvariantLaws.{Untouched, Looked, reclaim-result, reclaim-idle}
-use Rattle.dock.proofs.NothingLaws.{reclaim-records}
-use Rattle.dock.proofs.OnceLaws.{held-found}
+use Rattle.dock.proofs.ReachedBookLaws.{by-flies, freed-sum}
+use Rattle.dock.proofs.ReachedSoundLaws.{Untouched, Looked, reclaim-result, reclaim-idle}
+use Rattle.dock.proofs.ReclaimLeaveLaws.{reclaim-records}
+use Rattle.dock.proofs.ReclaimOnceLaws.{held-found}
 use Rattle.dock.proofs.Reached.{Sound, flightPart}
 use Rattle.dock.specs.Run.{stateOf, reclaims}
 use Rattle.dock.proofs.ReclaimLaws.{final, Left}

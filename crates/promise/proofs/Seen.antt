@@ -22,7 +22,7 @@ use Rattle.dock.specs.declared.Endpoint.{Endpoint}
 use Rattle.dock.specs.declared.ReclaimedOne.{ReclaimedOne}
 use Rattle.dock.specs.Reclaim.{nothing, codeOf, remainingOf, placeOf, bulkBy, reclaimBulk, onward, stageBy, statusBy, recordedBy, statusPlace, dataPlace, dataSeen, reclaimControl, counted, closeBelow, Swept, unfinished, found, sweptBy, sweptAt, sweep, sweptAnswer, reclaimIso, reclaimFlying}
 use Rattle.dock.specs.Worth.{accepted, counts, bytes}
-use Rattle.dock.proofs.CompletionLaws.{worth-counts}
+use Rattle.dock.proofs.ReclaimAnswerLaws.{worth-counts}
 use Rattle.dock.proofs.RetireLaws.{picked}
 use Rattle.promise.proofs.Kept.{Counts}
 

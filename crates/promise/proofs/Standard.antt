@@ -13,7 +13,7 @@ use Rattle.trb.specs.Layouts.{wordsAt}
 use Rattle.trb.specs.declared.Words.{Words}
 use Rattle.trb.proofs.CycleLaws.{past-link}
 use Rattle.dock.proofs.Reached.{Sound}
-use Rattle.dock.proofs.TestLaws.{by-limits}
+use Rattle.dock.proofs.RefusalTestLaws.{by-limits}
 use Rattle.order.specs.Flat.{flat, linkType}
 use Rattle.order.proofs.Invariant.{View, waits, follows, consumes, view}
 use Rattle.promise.specs.Controller.{does, goes}

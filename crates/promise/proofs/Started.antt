@@ -24,17 +24,17 @@ use Rattle.dock.specs.declared.Endpoint.{Endpoint}
 use Rattle.dock.specs.declared.Request.{Request}
 use Rattle.dock.specs.declared.What.{What}
 use Rattle.dock.specs.declared.What.the-variants as asks
-use Rattle.dock.specs.Fit.{flies}
+use Rattle.dock.specs.RowOne.{flies}
 use Rattle.dock.specs.Requests.{kindOf, required, withWhat, recordFor}
 use Rattle.dock.specs.Start.{startNo, recordTaken, idTaken, charged, writePackets, startedEndpoint, startedRecords}
-use Rattle.dock.specs.Stores.{trbCount, deferred, chained}
-use Rattle.dock.proofs.BooksLaws.{by-flies}
+use Rattle.dock.specs.Trbs.{trbCount, deferred, chained}
+use Rattle.dock.proofs.ReachedBookLaws.{by-flies}
 use Rattle.dock.proofs.Reached.{Sound}
 use Rattle.dock.specs.Run.{stateOf}
 use Rattle.dock.specs.Run as dock
 use Rattle.dock.proofs.RefusalLaws.{start-acts, start-refuses}
 use Rattle.dock.proofs.StartLaws.{Starting, start-admitted, record-below, record-free, record-taken, record-written, records-kept}
-use Rattle.dock.proofs.StartedLaws.{count-is, required-some}
+use Rattle.dock.proofs.StartStoreLaws.{count-is, required-some}
 use Rattle.order.specs.Flat.{flat}
 use Rattle.order.specs.Model.{Td, Plain, idle, busy, starts, begin, MayBegin}
 use Rattle.order.specs.Model as model

@@ -23,15 +23,15 @@ use Rattle.finished.specs.declared.Finished.the-variants.{Event}
 use Rattle.records.specs.declared.Record.{Record}
 use Rattle.finished.proofs.FinishedLaws.{cleared, others-kept}
 use Rattle.dock.specs.declared.Endpoint.{Endpoint}
-use Rattle.dock.specs.Fit.{Next, theLink, theTrb, theFirst, nextOf, isNone}
-use Rattle.dock.specs.State.{idle, moved}
-use Rattle.dock.specs.Store.{stepped, settled, ringStored, finishedStored, firstCycle, storeNo}
-use Rattle.dock.specs.Stores.{trbCount, trbOf, deferred, firstTrb, chained, linkFor}
-use Rattle.dock.proofs.NextLaws.{is-next, store-admitted}
+use Rattle.dock.specs.RowOne.{Next, theLink, theTrb, theFirst, nextOf, isNone}
+use Rattle.dock.specs.State.{idle, withStore}
+use Rattle.dock.specs.NextStore.{stepped, settled, ringStored, finishedStored, firstCycle, storeNo}
+use Rattle.dock.specs.Trbs.{trbCount, trbOf, deferred, firstTrb, chained, linkFor}
+use Rattle.dock.proofs.StoreNextLaws.{is-next, store-admitted}
 use Rattle.dock.proofs.Reached.{Sound}
 use Rattle.dock.specs.Run.{State, stateOf, stores}
 use Rattle.dock.proofs.RefusalLaws.{store-acts, store-refuses}
-use Rattle.dock.proofs.StepLaws.{step-works, first-hidden, trb-current}
+use Rattle.dock.proofs.StoreStepLaws.{step-works, first-hidden, trb-current}
 use Rattle.dock.proofs.TdLaws.{first-same, link-kept}
 use Rattle.order.specs.Flat.{flat, setCycle, setSlot}
 use Rattle.order.specs.Model as model
@@ -176,7 +176,7 @@ module _ (w : World) (h : Sound (w .dock)) (k : Kept w) where
   keeps-on n q = rw q
 
   is-over : (n : Next) → isNone (nextOf (stepped n e v packets) v) ≡ true
-      → settled (stepped n e v packets) v ≡ moved (stepped n e v packets) (stepped n e v packets .at) (stepped n e v packets .periodic .frame) idle
+      → settled (stepped n e v packets) v ≡ withStore (stepped n e v packets) (stepped n e v packets .at) (stepped n e v packets .periodic .frame) idle
   unfolding settled
   is-over n q = rw q
 

@@ -11,11 +11,11 @@ use Rattle.trb.specs.declared.Trb.{Trb}
 use Rattle.records.specs.Records.{recordAt}
 use Rattle.records.specs.declared.Record.{Record}
 use Rattle.dock.specs.declared.Endpoint.{Endpoint}
-use Rattle.dock.specs.Fit.{theLink, theTrb, theFirst, nextOf, isNone}
-use Rattle.dock.specs.Fit as fit
-use Rattle.dock.specs.Store.{stepped}
-use Rattle.dock.specs.Stores.{trbCount, trbOf, deferred}
-use Rattle.dock.proofs.NextLaws.{is-next}
+use Rattle.dock.specs.RowOne.{theLink, theTrb, theFirst, nextOf, isNone}
+use Rattle.dock.specs.RowOne as fit
+use Rattle.dock.specs.NextStore.{stepped}
+use Rattle.dock.specs.Trbs.{trbCount, trbOf, deferred}
+use Rattle.dock.proofs.StoreNextLaws.{is-next}
 use Rattle.promise.proofs.Kept.{upcoming, left}
 use Rattle.promise.proofs.Laid.{bared-length}
 

@@ -28,18 +28,18 @@ use Rattle.sizes.specs.Sizes.{ringSize}
 use Rattle.dock.specs.Make.{make, makeNo}
 use Rattle.dock.specs.Reclaim.{leave, nothing, reclaim}
 use Rattle.dock.specs.Start.{startNo}
-use Rattle.dock.specs.Store.{store, storeNo, storeTests}
+use Rattle.dock.specs.NextStore.{store, storeNo, storeTests}
 use Rattle.dock.specs.Submit.{finish, mostStores}
 use Rattle.dock.specs.Submit as submitting
-use Rattle.dock.proofs.FinishLaws.{submit-done}
-use Rattle.dock.proofs.InvariantLaws.{Untouched, Looked, reclaim-result}
+use Rattle.dock.proofs.SubmitEndLaws.{submit-done}
+use Rattle.dock.proofs.ReachedSoundLaws.{Untouched, Looked, reclaim-result}
 use Rattle.dock.proofs.Reached.{Sound, flightPart}
 use Rattle.dock.specs.Run.{State, stateOf, madeOf, Made, making, Call, configures, starts, stores, submits, reclaims, cancels, retires, begins, ends, stops, resumes, points, after}
 use Rattle.dock.specs.Run as dock
 use Rattle.dock.proofs.ReclaimLaws.{Left}
 use Rattle.dock.proofs.RefusalLaws.{start-acts, start-refuses, store-exact, store-refuses, submit-acts, submit-refuses}
 use Rattle.dock.proofs.RetireLaws.{picked}
-use Rattle.dock.proofs.StepLaws.{store-goes-on, store-ends}
+use Rattle.dock.proofs.StoreStepLaws.{store-goes-on, store-ends}
 use Rattle.dock.proofs.StoreLaws.{lastStore}
 use Rattle.order.proofs.Order.{Front}
 use Rattle.promise.specs.Requested.{typed}
@@ -278,7 +278,7 @@ between-rests : (w : World) (m : Move) → between m ≡ true → w .dock .endpo
 unfolding handed stepped
 between-rests w (calls c) other free =
     ap (λ (s : State). s .endpoint .work .busy) (booked-dock w _ (part c)) ∙ call-rests (w .dock) c other free
-between-rests w (hands event number) other free = free
+between-rests w (hands event nth) other free = free
 between-rests w steps other free = free
 
 made-rests : (d : State) → Made d → d .endpoint .work .busy ≡ false

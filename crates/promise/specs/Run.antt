@@ -124,12 +124,12 @@ stepped w =
 -- An event is handed over with the number of the TRB that it is for, counted from 0 in the order of consumption.
 pub data Move : Type 0 where
   calls : Call → Move
-  hands : (event : Words) (number : ℕ) → Move
+  hands : (event : Words) (nth : ℕ) → Move
   steps : Move
 
 abbrev pub act : World → Move → World
 act w (calls c) = booked w (after (w .dock) c) (part c)
-act w (hands event number) = handed w event number
+act w (hands event nth) = handed w event nth
 act w steps = stepped w
 
 -- Whether it is a move of these runs.
@@ -141,7 +141,7 @@ within outside = false
 
 abbrev pub ofRuns : Move → Bool
 ofRuns (calls c) = within (part c)
-ofRuns (hands event number) = true
+ofRuns (hands event nth) = true
 ofRuns steps = true
 
 -- ---- the premises
@@ -169,7 +169,7 @@ wellTyped outside = true
 
 abbrev pub may : World → Move → Bool
 may w (calls c) = within (part c) && wellTyped (part c)
-may w (hands event number) = not (takes w event) || isFor w event number
+may w (hands event nth) = not (takes w event) || isFor w event nth
 may w steps = true
 
 -- ---- runs

@@ -28,7 +28,7 @@ isAside outside = false
 
 abbrev pub between : Move → Bool
 between (calls c) = isAside (part c)
-between (hands event number) = true
+between (hands event nth) = true
 between steps = true
 
 pub data WholeRun : World → Type 0 where

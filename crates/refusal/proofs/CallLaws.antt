@@ -24,7 +24,7 @@ use Rattle.event.specs.declared.Event.{Event}
 use Rattle.trb.specs.declared.Words.{Words}
 use Rattle.records.specs.Records.{inFlight, recordAt}
 use Rattle.records.specs.declared.Record.{Record}
-use Rattle.dock.specs.Fit.{fits, fitsWith}
+use Rattle.dock.specs.RowOne.{fits, fitsWith}
 use Rattle.dock.specs.HandOver.{isOutside, slotNumber, slotFor, foreign, handOverTests, handOverNo}
 use Rattle.dock.specs.Cancel.{cancelTests, cancelNo}
 use Rattle.dock.specs.Reclaim.{badRecord, reclaimTests, reclaimNo}
@@ -58,7 +58,7 @@ module _ (base slots address : ℕ) where
 -- An event of another endpoint, by what its words say.
 abbrev pub foreignEvent : Endpoint → Words → Event → Bool
 foreignEvent e w v =
-    not (eqb (v .kind) 32)
+    not (eqb (v .form) 32)
     || not (eqb (v .slot) (e .who .slot))
     || not (eqb (v .endpoint) (e .who .dci))
     || isOutside (slotFor e w)
@@ -74,7 +74,7 @@ unfolding handOverNo handOverTests foreign slotFor
 handed e finished w none =
     let ts = handOverTests e finished w in
     let ready : (fits e && eqb finished (ringSize (e .shape .slots))) ≡ true = not-false _ (quiet ts 0 refl none (omega arith)) in
-    let mine = not (eqb (eventOf w .kind) 32) || not (eqb (eventOf w .slot) (e .who .slot)) || not (eqb (eventOf w .endpoint) (e .who .dci)) in
+    let mine = not (eqb (eventOf w .form) 32) || not (eqb (eventOf w .slot) (e .who .slot)) || not (eqb (eventOf w .endpoint) (e .who .dci)) in
     let inside : isOutside (slotFor e w) ≡ false = or-false mine (isOutside (slotFor e w)) (quiet ts 2 refl none (omega arith)) .1 in (
       eqb-true _ _ (and-eq-true-iff (fits e) (eqb finished (ringSize (e .shape .slots))) .0 ready .1),
       slot-below (e .shape .base) (e .shape .slots) (eventOf w .address) inside,

@@ -6,7 +6,7 @@ ghost use lib.Dec.{eqb};
 ghost use lib.ListN.{length};
 ghost use Rattle.sizes.specs.Sizes.{ringSize, recordCount, recordWords, packetsSize};
 ghost use Rattle.ids.specs.Lookup.{findIn};
-ghost use Rattle.dock.specs.Fit.{fits, fitsWith};
+ghost use Rattle.dock.specs.RowOne.{fits, fitsWith};
 ghost use Rattle.dock.specs.HandOver.{slotFor, slotNumber, foreign, handOverNo};
 ghost use Rattle.dock.specs.Cancel.{notFlying, cancelNo};
 ghost use Rattle.dock.specs.Reclaim.{badRecord, reclaimNo};
@@ -47,7 +47,7 @@ fn is_foreign(e: Endpoint, w: Words) -> bool
     ensures { λ r. ⌜ r ≡ foreign e w ⌝ }
 {
     let event = event::event_of(w);
-    if event.kind != 32 {
+    if event.form != 32 {
         return true;
     }
     if event.slot != e.who.slot as u32 {

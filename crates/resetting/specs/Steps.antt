@@ -6,7 +6,7 @@ use lib.Dec.{eqb}
 use Rattle.mask.specs.declared.Occupancy.{Occupancy}
 use Rattle.sizes.specs.Sizes.{recordCount}
 use Rattle.ids.specs.Free.{any}
-use Rattle.dock.specs.Fit.{flies}
+use Rattle.dock.specs.RowOne.{flies}
 
 -- Requests in flight, or TRBs outstanding, from the numbers of the account.
 unfoldable pub occupiedBy : List ℕ → Occupancy → ℕ → Bool

@@ -5,7 +5,7 @@ ghost use mathlib.Core.Bool.{_&&_};
 ghost use lib.ListN.{length};
 ghost use Rattle.sizes.specs.Sizes.{recordCount, recordWords};
 ghost use Rattle.ids.specs.Free.{any};
-ghost use Rattle.dock.specs.Fit.{flies};
+ghost use Rattle.dock.specs.RowOne.{flies};
 ghost use Rattle.dock.specs.Reset.{beginNo, beginReset, endNo, endReset};
 ghost use Rattle.resetting.specs.Steps.{occupiedBy};
 use dock::Changed;

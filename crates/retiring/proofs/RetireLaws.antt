@@ -6,7 +6,7 @@ use native.Mathlib.Numerals.{add-one}
 use Rattle.base.specs.First.{pick}
 use Rattle.mask.specs.declared.Occupancy.{Occupancy}
 use Rattle.records.specs.Records.{stateWord, stopped, recordAt, setWord}
-use Rattle.dock.specs.Fit.{flies}
+use Rattle.dock.specs.RowOne.{flies}
 use Rattle.dock.specs.Retire.{retiredBelow}
 use Rattle.retiring.specs.Steps.{retireOne}
 

@@ -4,7 +4,7 @@ use mathlib.Core.List.{List}
 use Rattle.base.specs.First.{pick}
 use Rattle.mask.specs.declared.Occupancy.{Occupancy}
 use Rattle.records.specs.Records.{stateWord, stopped, recordAt, setWord}
-use Rattle.dock.specs.Fit.{flies}
+use Rattle.dock.specs.RowOne.{flies}
 
 -- One record: outstanding and the table afterwards.
 unfoldable pub retireOne : Occupancy → ℕ → List ℕ → ℕ → ℕ × List ℕ

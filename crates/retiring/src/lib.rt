@@ -3,7 +3,7 @@ ghost use mathlib.Core.Path.{_≡_};
 ghost use Prim.Native.Nat.{_+_, _-_, _*_, _<_};
 ghost use lib.ListN.{length};
 ghost use Rattle.sizes.specs.Sizes.{recordCount, recordWords};
-ghost use Rattle.dock.specs.Fit.{flies};
+ghost use Rattle.dock.specs.RowOne.{flies};
 ghost use Rattle.dock.specs.Retire.{retiredBelow, retire};
 ghost use Rattle.retiring.specs.Steps.{retireOne};
 use dock::Account;

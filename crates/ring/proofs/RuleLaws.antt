@@ -5,7 +5,7 @@ use mathlib.Core.Bool.{Bool, true, false, not, Bool·beq}
 use mathlib.Core.List.{List}
 use mathlib.Core.Path.{_≡_, refl, _∙_}
 use lib.ListN.{length}
-use Rattle.trb.specs.Layouts.{wordsOf, wordsAt, kindOf}
+use Rattle.trb.specs.Layouts.{wordsOf, wordsAt, typeNumber}
 use Rattle.trb.specs.Cycle.{past, owned}
 use Rattle.trb.specs.Cycle as cycle
 use Rattle.trb.specs.declared.Trb.{Trb}
@@ -19,7 +19,7 @@ abbrev pub pointer : Position → cycle.Pointer
 pointer p = record { slot = p .place; state = p .cycle }
 
 -- Past a TRB that is no link, stored with either cycle bit, the pointer is the position one place on.
-pub onward-is : (base : ℕ) (t : Trb) (c : Bool) (p : Position) → (kindOf t ≡ 6 → ⊥) → past base (wordsOf t c) (pointer p) ≡ pointer (onward p)
+pub onward-is : (base : ℕ) (t : Trb) (c : Bool) (p : Position) → (typeNumber t ≡ 6 → ⊥) → past base (wordsOf t c) (pointer p) ≡ pointer (onward p)
 onward-is base t c p other = past-other base t c (pointer p) other
 
 -- Past the ring's link it is the position that has gone round.

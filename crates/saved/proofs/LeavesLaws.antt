@@ -21,7 +21,7 @@ use Rattle.dock.specs.declared.Shape.{Shape}
 use Rattle.dock.specs.declared.Stored.the-variants.{Slot, Last}
 use Rattle.dock.specs.declared.Submitted.{Submitted}
 use Rattle.dock.specs.Configure.{plainNo, configure}
-use Rattle.dock.specs.Fit.{Next, nextOf, isNone}
+use Rattle.dock.specs.RowOne.{Next, nextOf, isNone}
 use Rattle.sizes.specs.Sizes.{ringSize}
 use Rattle.dock.specs.Make.{makeNo, make}
 use Rattle.dock.specs.Numbers.{outcomeNumber, storedNumber, submittedNumber, resettingNumber}
@@ -29,10 +29,10 @@ use Rattle.dock.specs.Reclaim.{reclaim}
 use Rattle.dock.specs.Reset.{beginNo, beginReset, endNo, endReset}
 use Rattle.dock.specs.Retire.{recordNo, retire}
 use Rattle.dock.specs.Start.{startNo, start}
-use Rattle.dock.specs.Store.{storeNo, store, storedAnswer, slotStored}
+use Rattle.dock.specs.NextStore.{storeNo, store, storedAnswer, slotStored}
 use Rattle.dock.specs.Submit.{submit}
-use Rattle.dock.proofs.FinishLaws.{submit-done}
-use Rattle.dock.proofs.NothingLaws.{reclaim-refused, reclaim-nothing}
+use Rattle.dock.proofs.SubmitEndLaws.{submit-done}
+use Rattle.dock.proofs.ReclaimLeaveLaws.{reclaim-refused, reclaim-nothing}
 use Rattle.dock.proofs.RefusalLaws.{make-acts, configure-refuses, configure-acts, end-refuses, end-acts, start-refuses, start-acts, store-refuses, store-acts, submit-misfits, submit-refuses, retire-refuses, retire-acts, begin-refuses, begin-clear, begin-acts}
 use Rattle.loaded.specs.State.{moves}
 use Rattle.told.specs.Answer.{reclaimedTold}

@@ -13,7 +13,7 @@ use Rattle.records.specs.declared.Record.{Record}
 use Rattle.dock.specs.declared.Endpoint.{Endpoint}
 use Rattle.dock.specs.declared.StoredAll.{StoredAll}
 use Rattle.dock.specs.Start.{atLeastOne}
-use Rattle.dock.specs.Stores.{normalTrb, deferred, chained}
+use Rattle.dock.specs.Trbs.{normalTrb, deferred, chained}
 use Rattle.isoch.specs.declared.Pen.{Pen}
 use Rattle.striding.specs.Deferred.{deferredPut}
 use Rattle.isoch.specs.Packed.{allPut}

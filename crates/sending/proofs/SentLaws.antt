@@ -25,14 +25,14 @@ use Rattle.dock.specs.declared.StoredAll.{StoredAll}
 use Rattle.dock.specs.declared.Submitted.the-variants as submitted
 use Rattle.dock.specs.Requests.{required, withWhat, recordFor}
 use Rattle.dock.specs.Start.{startNo, tooLong, idTaken, recordTaken, atLeastOne, startedEndpoint, startedRecords, writePackets}
-use Rattle.dock.specs.State.{moved}
-use Rattle.dock.specs.Store.{store, worked}
-use Rattle.dock.specs.Stores.{trbCount, trbOf, deferred, chained}
+use Rattle.dock.specs.State.{withStore}
+use Rattle.dock.specs.NextStore.{store, withStored}
+use Rattle.dock.specs.Trbs.{trbCount, trbOf, deferred, chained}
 use Rattle.dock.specs.Submit.{afterStore, finish, mostStores}
-use Rattle.dock.proofs.AskedLaws.{packet-written}
-use Rattle.dock.proofs.FinishLaws.{start-finishes}
+use Rattle.dock.proofs.StartPacketLaws.{packet-written}
+use Rattle.dock.proofs.SubmitEndLaws.{start-finishes}
 use Rattle.dock.proofs.StartLaws.{start-admitted, record-below, record-written}
-use Rattle.dock.proofs.StartedLaws.{count-is, started-count, started-next, started-storing, required-some}
+use Rattle.dock.proofs.StartStoreLaws.{count-is, started-count, started-next, started-storing, required-some}
 use Rattle.dock.proofs.TdLaws.{by-deferred, chain-worked, isoch-early, isoch-unchained}
 use Rattle.trbs.specs.Trbs.{firstOf}
 use Rattle.isoch.specs.declared.Pen.{Pen}
@@ -77,7 +77,7 @@ one-way (suc m) (suc n) e ring finished records packets p q =
 
 -- The endpoint of an ISO submission of which k packets are stored, its pen there.
 abbrev penned : Endpoint → ℕ → Pen → Endpoint
-penned e k pen = moved e (pen .at) (pen .frame) (worked (e .work) k (pen .address))
+penned e k pen = withStore e (pen .at) (pen .frame) (withStored (e .work) k (pen .address))
 
 module _ (e : Endpoint) (v : Record) (asked sizes : List ℕ) (kind : v .kind ≡ isoch) (count : trbCount v ≡ length sizes)
     (asks : (k : ℕ) → k < length sizes → packetAt asked (e .work .number) k .requested ≡ getD sizes k 0) where
@@ -99,7 +99,7 @@ module _ (e : Endpoint) (v : Record) (asked sizes : List ℕ) (kind : v .kind �
 
 module _ (e : Endpoint) (v : Record) (asked ring finished : List ℕ) where
   abbrev staged : ℕ → Position × List ℕ × List ℕ → Endpoint × List ℕ × List ℕ
-  staged k s = (moved e (s .0) (e .periodic .frame) (worked (e .work) k (e .work .address)), s .1, s .2)
+  staged k s = (withStore e (s .0) (e .periodic .frame) (withStored (e .work) k (e .work .address)), s .1, s .2)
 
   abbrev hiddenFirst : Position × List ℕ × List ℕ
   hiddenFirst = putTrb (e .shape) (chained e v) (e .at) (firstOf v) (not (e .at .cycle)) ring finished

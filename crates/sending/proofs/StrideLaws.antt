@@ -18,16 +18,16 @@ use Rattle.dock.specs.declared.StoredAll.{StoredAll}
 use Rattle.dock.specs.declared.StoredOne.{StoredOne}
 use Rattle.dock.specs.declared.Submitted.the-variants as submitted
 use Rattle.dock.specs.declared.Stored.the-variants as stored
-use Rattle.dock.specs.Fit.{Next, theLink, theTrb, theFirst, none, nextOf, isNone}
-use Rattle.dock.specs.State.{idle, moved}
-use Rattle.dock.specs.Store.{storeNo, store, stepped, ringStored, finishedStored}
-use Rattle.dock.specs.Stores.{trbCount, deferred, firstTrb}
+use Rattle.dock.specs.RowOne.{Next, theLink, theTrb, theFirst, none, nextOf, isNone}
+use Rattle.dock.specs.State.{idle, withStore}
+use Rattle.dock.specs.NextStore.{storeNo, store, stepped, ringStored, finishedStored}
+use Rattle.dock.specs.Trbs.{trbCount, deferred, firstTrb}
 use Rattle.dock.specs.Submit.{afterStore, finish}
-use Rattle.dock.proofs.FinishLaws.{still}
-use Rattle.dock.proofs.NextLaws.{is-next, Storing, store-admits}
+use Rattle.dock.proofs.SubmitEndLaws.{still}
+use Rattle.dock.proofs.StoreNextLaws.{is-next, Storing, store-admits}
 use Rattle.dock.proofs.RefusalLaws.{store-acts}
 use Rattle.dock.proofs.TdLaws.{chain-same}
-use Rattle.dock.proofs.StepLaws.{first-is-last, store-goes-on, store-ends}
+use Rattle.dock.proofs.StoreStepLaws.{first-is-last, store-goes-on, store-ends}
 use Rattle.dock.proofs.StoreLaws.{flyingRecord, nextStore, ring-length, finished-length}
 use Rattle.striding.specs.Stride.{putTrb, nextPut, strode, strides, closed}
 
@@ -94,7 +94,7 @@ module _ (records packets : List ℕ) where
     lastly n ring′ finished′ = (
       record {
         answer = submitted.Done (v .id) (e .who .dci);
-        endpoint = moved (stepped n e v packets) (stepped n e v packets .at) (stepped n e v packets .periodic .frame) idle;
+        endpoint = withStore (stepped n e v packets) (stepped n e v packets .at) (stepped n e v packets .periodic .frame) idle;
       },
       ring′,
       finished′,
@@ -116,7 +116,7 @@ module _ (records packets : List ℕ) where
   -- The end of a submission, where x is the endpoint behind its last store.
   abbrev endWith : Record → ℕ → Endpoint → List ℕ → List ℕ → Whole
   endWith v bell x ring finished =
-      (record { answer = submitted.Done (v .id) bell; endpoint = moved x (x .at) (x .periodic .frame) idle }, ring, finished)
+      (record { answer = submitted.Done (v .id) bell; endpoint = withStore x (x .at) (x .periodic .frame) idle }, ring, finished)
 
   -- The stores of e lead to x: where nothing is left there, they end so; else x's stores may follow, and end them.
   Leads : Record → ℕ → Endpoint → List ℕ → List ℕ → Endpoint → List ℕ → List ℕ → Type 0

@@ -13,15 +13,15 @@ use Rattle.dock.specs.declared.Endpoint.{Endpoint}
 use Rattle.dock.specs.declared.StoredAll.{StoredAll}
 use Rattle.dock.specs.declared.Submitted.the-variants.{Done}
 use Rattle.dock.specs.Start.{atLeastOne}
-use Rattle.dock.specs.State.{idle, moved}
-use Rattle.dock.specs.Stores.{normalTrb, deferred, chained}
+use Rattle.dock.specs.State.{idle, withStore}
+use Rattle.dock.specs.Trbs.{normalTrb, deferred, chained}
 use Rattle.isoch.specs.declared.Pen.{Pen}
 use Rattle.striding.specs.Deferred.{putSame, deferredPut}
 use Rattle.isoch.specs.Packed.{allPut}
 
 -- The end: the id and the doorbell word, the pen's position and frame, nothing under way.
 abbrev pub ended : Endpoint → ℕ → Position → ℕ → StoredAll
-ended e id p frame = record { answer = Done id (e .who .dci); endpoint = moved e p frame idle }
+ended e id p frame = record { answer = Done id (e .who .dci); endpoint = withStore e p frame idle }
 
 abbrev pub penOf : Endpoint → Pen
 penOf e = record { at = e .at; address = e .work .address; frame = e .periodic .frame }

@@ -23,9 +23,9 @@ use Rattle.sizes.specs.Sizes.{ringSize}
 use Rattle.dock.specs.Requests.{countFor}
 use Rattle.dock.specs.Start.{someOver, sumOf, tooLong, startNo, startedEndpoint, startedRecords, writePackets, recordTaken, idTaken}
 use Rattle.dock.specs.State.{idle}
-use Rattle.dock.specs.Store.{store}
+use Rattle.dock.specs.NextStore.{store}
 use Rattle.dock.specs.Submit.{afterStore, finish, mostStores}
-use Rattle.dock.proofs.FinishLaws.{start-finishes}
+use Rattle.dock.proofs.SubmitEndLaws.{start-finishes}
 use Rattle.dock.proofs.RefusalLaws.{start-acts}
 use Rattle.dock.proofs.StartLaws.{start-admitted}
 use Rattle.page.specs.Page.{Page, putAll}

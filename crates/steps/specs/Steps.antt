@@ -8,9 +8,9 @@ use Rattle.records.specs.declared.Record.{Record}
 use Rattle.dock.specs.declared.Endpoint.{Endpoint}
 use Rattle.dock.specs.declared.Stored.the-variants.{Slot, Last}
 use Rattle.dock.specs.declared.StoredOne.{StoredOne}
-use Rattle.dock.specs.Fit.{nextOf, isNone}
-use Rattle.dock.specs.State.{moved}
-use Rattle.dock.specs.Store.{worked, frameOn, settled}
+use Rattle.dock.specs.RowOne.{nextOf, isNone}
+use Rattle.dock.specs.State.{withStore}
+use Rattle.dock.specs.NextStore.{withStored, frameOn, settled}
 
 -- The running address behind a packet of so many bytes.
 abbrev pub runWith : Endpoint → Record → ℕ → ℕ
@@ -18,7 +18,7 @@ runWith e v size = pick (eqb (v .kind) isoch) ((e .work .address + size) % 2 ^ 6
 
 -- The endpoint after a TRB's store.
 unfoldable pub advancedBy : Endpoint → Record → ℕ → Endpoint
-advancedBy e v size = moved e (onward (e .at)) (frameOn e v) (worked (e .work) (e .work .stored + 1) (runWith e v size))
+advancedBy e v size = withStore e (onward (e .at)) (frameOn e v) (withStored (e .work) (e .work .stored + 1) (runWith e v size))
 
 -- The answer of a store that changed a slot and left this endpoint.
 unfoldable pub concludedBy : Endpoint → Record → ℕ → StoredOne

@@ -2,9 +2,9 @@
 ghost use mathlib.Core.Path.{_≡_};
 ghost use Prim.Native.Nat.{_+_, _≤_, _<_, max};
 ghost use Rattle.sizes.specs.Sizes.{mostSlots, packetCount};
-ghost use Rattle.dock.specs.State.{idle, moved};
-ghost use Rattle.dock.specs.Stores.{frameAfter};
-ghost use Rattle.dock.specs.Store.{worked, frameOn, firstCycle};
+ghost use Rattle.dock.specs.State.{idle, withStore};
+ghost use Rattle.dock.specs.Trbs.{frameAfter};
+ghost use Rattle.dock.specs.NextStore.{withStored, frameOn, firstCycle};
 ghost use Rattle.steps.specs.Steps.{runWith, advancedBy, concludedBy};
 use checks::Next;
 use dock::Endpoint;
@@ -39,8 +39,8 @@ pub fn at_least_one(interval: u8) -> u8
 }
 
 // What a store changes of the endpoint.
-pub fn moved(e: Endpoint, p: Position, frame: u16, w: Work) -> Endpoint
-    ensures { λ r. ⌜ r ≡ moved e p frame w ⌝ }
+pub fn with_store(e: Endpoint, p: Position, frame: u16, w: Work) -> Endpoint
+    ensures { λ r. ⌜ r ≡ withStore e p frame w ⌝ }
 {
     let mut next = e;
     next.at = p;
@@ -49,8 +49,8 @@ pub fn moved(e: Endpoint, p: Position, frame: u16, w: Work) -> Endpoint
     next
 }
 
-pub fn worked(w: Work, stored: usize, address: u64) -> Work
-    ensures { λ r. ⌜ r ≡ worked w stored address ⌝ }
+pub fn with_stored(w: Work, stored: usize, address: u64) -> Work
+    ensures { λ r. ⌜ r ≡ withStored w stored address ⌝ }
 {
     Work {
         busy: true,
@@ -114,12 +114,12 @@ pub fn advanced(e: Endpoint, v: Record, size: u32) -> Endpoint
     let frame = frame_on(e, v);
     let address = run_on(e, v, size);
     let w = e.work;
-    moved(e, p, frame, worked(w, e.work.stored + 1, address))
+    with_store(e, p, frame, with_stored(w, e.work.stored + 1, address))
 }
 
 // After the last store nothing is under way.
 fn settled(e: Endpoint) -> Endpoint
-    ensures { λ r. ⌜ r ≡ moved e (e .at) (e .periodic .frame) idle ⌝ }
+    ensures { λ r. ⌜ r ≡ withStore e (e .at) (e .periodic .frame) idle ⌝ }
 {
     let mut next = e;
     next.work = idle();

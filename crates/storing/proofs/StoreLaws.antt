@@ -10,14 +10,14 @@ use lib.ListN.{length}
 use Rattle.base.proofs.Chosen.{quiet}
 use Rattle.records.specs.Records.{recordAt}
 use Rattle.records.specs.declared.Record.{Record}
-use Rattle.dock.specs.Fit.{theLink, theTrb, theFirst, none, fitsWith}
+use Rattle.dock.specs.RowOne.{theLink, theTrb, theFirst, none, fitsWith}
 use Rattle.sizes.specs.Sizes.{ringSize, packetsSize}
-use Rattle.dock.specs.Store.{storeTests, storeNo, stepped, slotStored, ringStored, finishedStored, storedAnswer}
-use Rattle.dock.specs.Stores.{trbOf, packetSize, deferred}
+use Rattle.dock.specs.NextStore.{storeTests, storeNo, stepped, slotStored, ringStored, finishedStored, storedAnswer}
+use Rattle.dock.specs.Trbs.{trbOf, packetSize, deferred}
 use Rattle.dock.specs.declared.Endpoint.{Endpoint}
 use Rattle.dock.specs.declared.StoredOne.{StoredOne}
 use Rattle.checks.proofs.Laws.{fit, fit-with, count-most}
-use Rattle.dock.proofs.TestLaws.{on-course}
+use Rattle.dock.proofs.RefusalTestLaws.{on-course}
 use Rattle.storing.specs.Ready.{Ready}
 use Rattle.trbs.specs.Trbs.{controlTrb, trbWith}
 use Rattle.trbs.proofs.FirstLaws.{first-of}

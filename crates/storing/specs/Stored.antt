@@ -7,17 +7,17 @@ use Rattle.records.specs.Records.{recordAt}
 use Rattle.records.specs.declared.Record.{Record}
 use Rattle.dock.specs.declared.Endpoint.{Endpoint}
 use Rattle.dock.specs.declared.StoredOne.{StoredOne}
-use Rattle.dock.specs.Fit.{Next, nextOf}
-use Rattle.dock.specs.State.{moved}
-use Rattle.dock.specs.Stores.{linkFor}
-use Rattle.dock.specs.Store.{worked, firstCycle, stepped, ringStored, finishedStored, settled, storedAnswer}
+use Rattle.dock.specs.RowOne.{Next, nextOf}
+use Rattle.dock.specs.State.{withStore}
+use Rattle.dock.specs.Trbs.{linkFor}
+use Rattle.dock.specs.NextStore.{withStored, firstCycle, stepped, ringStored, finishedStored, settled, storedAnswer}
 use Rattle.trbs.specs.Trbs.{firstOf, trbWith}
 use Rattle.steps.specs.Steps.{advancedBy, concludedBy}
 
 -- The link's store,
 unfoldable pub linkBy : Endpoint → Record → List ℕ → StoredOne × List ℕ
 linkBy e v ring = (
-  concludedBy (moved e (around (e .at)) (e .periodic .frame) (worked (e .work) (e .work .stored) (e .work .address))) v (e .at .place),
+  concludedBy (withStore e (around (e .at)) (e .periodic .frame) (withStored (e .work) (e .work .stored) (e .work .address))) v (e .at .place),
   storeAt ring (e .at .place) (linkFor e v) (e .at .cycle),
 )
 
@@ -32,7 +32,7 @@ trbBy e v size ring finished = (
 -- and the first TRB's, again.
 unfoldable pub firstBy : Endpoint → Record → List ℕ → StoredOne × List ℕ
 firstBy e v ring = (
-  concludedBy (moved e (e .at) (e .periodic .frame) (worked (e .work) (e .work .stored + 1) (e .work .address))) v (e .work .place),
+  concludedBy (withStore e (e .at) (e .periodic .frame) (withStored (e .work) (e .work .stored + 1) (e .work .address))) v (e .work .place),
   storeAt ring (e .work .place) (firstOf v) (e .work .cycle),
 )
 

@@ -7,9 +7,9 @@ ghost use Prim.Native.Nat.{_+_, _*_, _≤_, _<_};
 ghost use lib.Dec.{eqb};
 ghost use lib.ListN.{length};
 ghost use Rattle.sizes.specs.Sizes.{mostSlots, ringSize, packetCount, packetsSize};
-ghost use Rattle.dock.specs.Fit.{fitsWith};
-ghost use Rattle.dock.specs.State.{moved};
-ghost use Rattle.dock.specs.Store.{storeNo, worked};
+ghost use Rattle.dock.specs.RowOne.{fitsWith};
+ghost use Rattle.dock.specs.State.{withStore};
+ghost use Rattle.dock.specs.NextStore.{storeNo, withStored};
 ghost use Rattle.storing.specs.Ready.{Ready};
 ghost use Rattle.storing.specs.Stored.{linkBy, trbBy, firstBy, storedBy};
 use checks::Next;
@@ -50,11 +50,11 @@ fn store_link(e: Endpoint, v: Record, ring: &mut [u32]) -> StoredOne
     let chain = checks::is_chained(e, v);
     let q = ring::next_index(ring, p, e.shape.base, chain);
     let w = e.work;
-    let after = steps::moved(
+    let after = steps::with_store(
         e,
         q,
         e.periodic.frame,
-        steps::worked(w, w.stored, w.address),
+        steps::with_stored(w, w.stored, w.address),
     );
     steps::concluded(after, v, p.place)
 }
@@ -80,11 +80,11 @@ fn store_first(e: Endpoint, v: Record, ring: &mut [u32]) -> StoredOne
     let w = e.work;
     let place = w.place;
     ring::set_transfer_trb(ring, place, trbs::first_trb(v), w.cycle);
-    let after = steps::moved(
+    let after = steps::with_store(
         e,
         p,
         e.periodic.frame,
-        steps::worked(w, w.stored + 1, w.address),
+        steps::with_stored(w, w.stored + 1, w.address),
     );
     steps::concluded(after, v, place)
 }

@@ -10,7 +10,7 @@ use Rattle.ring.specs.Ring.{storeAt, onward}
 use Rattle.ring.specs.declared.Position.{Position}
 use Rattle.finished.specs.Finished.{clearPlace}
 use Rattle.records.specs.declared.Record.{Record}
-use Rattle.dock.specs.Stores.{dataTrb, statusTrb}
+use Rattle.dock.specs.Trbs.{dataTrb, statusTrb}
 use Rattle.dock.specs.declared.Shape.{Shape}
 use Rattle.striding.specs.Deferred.{stagesPut, deferredPut}
 use Rattle.striding.specs.Stride.{linkOn, putTrb}

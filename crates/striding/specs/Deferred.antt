@@ -10,7 +10,7 @@ use Rattle.ring.specs.Ring.{storeAt}
 use Rattle.ring.specs.declared.Position.{Position}
 use Rattle.records.specs.declared.Record.{Record}
 use Rattle.dock.specs.declared.Shape.{Shape}
-use Rattle.dock.specs.Stores.{dataTrb, statusTrb}
+use Rattle.dock.specs.Trbs.{dataTrb, statusTrb}
 use Rattle.trbs.specs.Trbs.{firstOf}
 use Rattle.striding.specs.Stride.{putTrb}
 

@@ -14,9 +14,9 @@ use Rattle.dock.specs.declared.Endpoint.{Endpoint}
 use Rattle.dock.specs.declared.Shape.{Shape}
 use Rattle.dock.specs.declared.StoredAll.{StoredAll}
 use Rattle.dock.specs.declared.Submitted.the-variants.{Done}
-use Rattle.dock.specs.State.{idle, moved}
-use Rattle.dock.specs.Store.{worked, runOn, frameOn, firstCycle}
-use Rattle.dock.specs.Stores.{trbOf, deferred, firstTrb, chained}
+use Rattle.dock.specs.State.{idle, withStore}
+use Rattle.dock.specs.NextStore.{withStored, runOn, frameOn, firstCycle}
+use Rattle.dock.specs.Trbs.{trbOf, deferred, firstTrb, chained}
 
 -- "Reaching L-1 it adds a second store, the link at L-1 with the old cycle, then place 0 and the cycle toggled": the position,
 abbrev pub linked : ℕ → Position → Position
@@ -40,7 +40,7 @@ nextPut e v packets ring finished = putTrb (e .shape) (chained e v) (e .at) (trb
 
 -- The endpoint behind it, which stands at p.
 abbrev pub strode : Endpoint → Record → List ℕ → Position → Endpoint
-strode e v packets p = moved e p (frameOn e v) (worked (e .work) (e .work .stored + 1) (runOn e v packets))
+strode e v packets p = withStore e p (frameOn e v) (withStored (e .work) (e .work .stored + 1) (runOn e v packets))
 
 -- So many TRBs.
 unfoldable pub strides : ℕ → Endpoint → Record → List ℕ → List ℕ → List ℕ → Endpoint × List ℕ × List ℕ
@@ -51,7 +51,7 @@ strides (suc n) e v packets ring finished =
 -- The end of a submission whose TRBs are stored: for a deferred TD the first TRB again, with the right cycle; then nothing is under way.
 unfoldable pub closed : Record → List ℕ → Endpoint × List ℕ × List ℕ → StoredAll × List ℕ × List ℕ
 closed v packets s = (
-  record { answer = Done (v .id) (s .0 .who .dci); endpoint = moved (s .0) (s .0 .at) (s .0 .periodic .frame) idle },
+  record { answer = Done (v .id) (s .0 .who .dci); endpoint = withStore (s .0) (s .0 .at) (s .0 .periodic .frame) idle },
   pick (deferred v) (storeAt (s .1) (s .0 .work .place) (firstTrb (s .0) v packets) (s .0 .work .cycle)) (s .1),
   s .2,
 )

@@ -5,13 +5,13 @@ use mathlib.Core.Bool.{Bool, true, not, Bool·beq}
 use mathlib.Core.Path.{_≡_, sym, _∙_}
 use native.Mathlib.Omega.{arith}
 use borrow.Author.Tests.{eq-eqb, ne-eqb}
-use Rattle.trb.specs.Layouts.{wordsOf, kindOf}
+use Rattle.trb.specs.Layouts.{wordsOf, typeNumber}
 use Rattle.trb.specs.Cycle.{Pointer, past, owned, typeOf}
 use Rattle.trb.specs.declared.Trb.{Trb}
 use Rattle.trb.specs.declared.Trb.the-variants.{Link}
 use Rattle.trb.proofs.LayoutLaws.{cycle-is, type-is, toggle-is, points}
 
-pub past-other : (base : ℕ) (t : Trb) (cycle : Bool) (p : Pointer) → (kindOf t ≡ 6 → ⊥)
+pub past-other : (base : ℕ) (t : Trb) (cycle : Bool) (p : Pointer) → (typeNumber t ≡ 6 → ⊥)
     → past base (wordsOf t cycle) p ≡ record { slot = p .slot + 1; state = p .state }
 unfolding past
 past-other base t cycle p other =

@@ -10,7 +10,7 @@ use lib.Dec.{eqb}
 use lib.ListN.{length, getD}
 use Rattle.base.specs.Fields.{Field, field, flag, word, bits, rising}
 use Rattle.base.proofs.ReadBack.{read-back, word-below, flag-read}
-use Rattle.trb.specs.Layouts.{Layout, layout, wordsOf, listed, kindOf}
+use Rattle.trb.specs.Layouts.{Layout, layout, wordsOf, listed, typeNumber}
 use Rattle.trb.specs.Cycle.{cycleOf, typeOf, toggles, pointsTo}
 use Rattle.trb.specs.declared.Trb.{Trb}
 use Rattle.trb.specs.declared.Trb.the-variants.{Normal, Setup, Data, Status, Isoch, Link, ResetEndpoint, StopEndpoint, SetDequeue}
@@ -29,7 +29,7 @@ sound l = rising 0 32 (l .w0) && rising 0 32 (l .w1) && rising 0 32 (l .w2) && r
 
 pub layouts-sound : (t : Trb) (cycle : Bool) → sound (layout t cycle) ≡ true
 layouts-sound (Normal address size span target short chain interrupt) cycle = refl
-layouts-sound (Setup kind request value index size transfer) cycle = refl
+layouts-sound (Setup type request value index size transfer) cycle = refl
 layouts-sound (Data address size short incoming) cycle = refl
 layouts-sound (Status interrupt incoming) cycle = refl
 layouts-sound (Isoch address size bursts target short chain interrupt block last frame asap) cycle = refl
@@ -82,7 +82,7 @@ module _ (t : Trb) (cycle : Bool) (i : ℕ) (h : i < 4) where
 -- Where the type stands in w3 among its fields.
 typeIndex : Trb → ℕ
 typeIndex (Normal address size span target short chain interrupt) = 4
-typeIndex (Setup kind request value index size transfer) = 2
+typeIndex (Setup type request value index size transfer) = 2
 typeIndex (Data address size short incoming) = 2
 typeIndex (Status interrupt incoming) = 2
 typeIndex (Isoch address size bursts target short chain interrupt block last frame asap) = 5
@@ -94,21 +94,21 @@ typeIndex (SetDequeue address state endpoint slot) = 1
 -- The first field of w3 is the cycle bit, and the type stands where `typeIndex` says.
 record Headed (t : Trb) (cycle : Bool) : Type 0 where
   first : getD (layout t cycle .w3) 0 (field 0 0 0) ≡ field 0 1 (flag cycle)
-  kind : getD (layout t cycle .w3) (typeIndex t) (field 0 0 0) ≡ field 10 6 (kindOf t)
+  type : getD (layout t cycle .w3) (typeIndex t) (field 0 0 0) ≡ field 10 6 (typeNumber t)
   within : typeIndex t < length (layout t cycle .w3)
-  small : kindOf t < 2 ^ 6
+  small : typeNumber t < 2 ^ 6
 
 headed : (t : Trb) (cycle : Bool) → Headed t cycle
 unfolding typeIndex
-headed (Normal address size span target short chain interrupt) cycle = record { first = refl; kind = refl; within = omega arith; small = omega arith }
-headed (Setup kind request value index size transfer) cycle = record { first = refl; kind = refl; within = omega arith; small = omega arith }
-headed (Data address size short incoming) cycle = record { first = refl; kind = refl; within = omega arith; small = omega arith }
-headed (Status interrupt incoming) cycle = record { first = refl; kind = refl; within = omega arith; small = omega arith }
-headed (Isoch address size bursts target short chain interrupt block last frame asap) cycle = record { first = refl; kind = refl; within = omega arith; small = omega arith }
-headed (Link address toggle chain) cycle = record { first = refl; kind = refl; within = omega arith; small = omega arith }
-headed (ResetEndpoint endpoint slot) cycle = record { first = refl; kind = refl; within = omega arith; small = omega arith }
-headed (StopEndpoint endpoint slot) cycle = record { first = refl; kind = refl; within = omega arith; small = omega arith }
-headed (SetDequeue address state endpoint slot) cycle = record { first = refl; kind = refl; within = omega arith; small = omega arith }
+headed (Normal address size span target short chain interrupt) cycle = record { first = refl; type = refl; within = omega arith; small = omega arith }
+headed (Setup type request value index size transfer) cycle = record { first = refl; type = refl; within = omega arith; small = omega arith }
+headed (Data address size short incoming) cycle = record { first = refl; type = refl; within = omega arith; small = omega arith }
+headed (Status interrupt incoming) cycle = record { first = refl; type = refl; within = omega arith; small = omega arith }
+headed (Isoch address size bursts target short chain interrupt block last frame asap) cycle = record { first = refl; type = refl; within = omega arith; small = omega arith }
+headed (Link address toggle chain) cycle = record { first = refl; type = refl; within = omega arith; small = omega arith }
+headed (ResetEndpoint endpoint slot) cycle = record { first = refl; type = refl; within = omega arith; small = omega arith }
+headed (StopEndpoint endpoint slot) cycle = record { first = refl; type = refl; within = omega arith; small = omega arith }
+headed (SetDequeue address state endpoint slot) cycle = record { first = refl; type = refl; within = omega arith; small = omega arith }
 
 -- A field that is known, read back.
 known : (w : ℕ) (f g : Field) → f ≡ g → bits (f .at) (f .wide) w ≡ f .value % 2 ^ f .wide → bits (g .at) (g .wide) w ≡ g .value % 2 ^ g .wide
@@ -127,10 +127,10 @@ module _ (t : Trb) (cycle : Bool) where
       ap (λ (n : ℕ). eqb n 1) (in-w3 0 (field 0 1 (flag cycle)) (headed t cycle .first) some) ∙ flag-read cycle
 
   -- The type is the TRB's.
-  pub type-is : typeOf (wordsOf t cycle) ≡ kindOf t
+  pub type-is : typeOf (wordsOf t cycle) ≡ typeNumber t
   unfolding typeOf
   type-is =
-      in-w3 (typeIndex t) (field 10 6 (kindOf t)) (headed t cycle .kind) (headed t cycle .within) ∙ mod-eq-of-lt (headed t cycle .small)
+      in-w3 (typeIndex t) (field 10 6 (typeNumber t)) (headed t cycle .type) (headed t cycle .within) ∙ mod-eq-of-lt (headed t cycle .small)
 
 -- ---- the link
 

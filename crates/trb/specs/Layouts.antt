@@ -38,7 +38,7 @@ sizes length size target = field 0 17 length ∷ field 17 5 size ∷ field 22 10
 
 -- Setup stage (6.4.1.2.1): the eight bytes of the request in w0 and w1; immediate data (6) and the transfer type (16, 17: 0 none, 2 out, 3 in).
 abbrev pub setupRequest : ℕ → ℕ → ℕ → List Field
-setupRequest kind request value = field 0 8 kind ∷ field 8 8 request ∷ field 16 16 value ∷ []
+setupRequest type request value = field 0 8 type ∷ field 8 8 request ∷ field 16 16 value ∷ []
 
 abbrev pub setupIndex : ℕ → ℕ → List Field
 setupIndex index length = field 0 16 index ∷ field 16 16 length ∷ []
@@ -80,15 +80,15 @@ linkControl cycle toggle chain = field 0 1 (flag cycle) ∷ field 1 1 (flag togg
 
 -- A command for an endpoint (6.4.3.7 Reset Endpoint, 6.4.3.8 Stop Endpoint, 6.4.3.9 Set TR Dequeue Pointer): endpoint (16-20), slot (24-31).
 abbrev pub commandControl : Bool → ℕ → ℕ → ℕ → List Field
-commandControl cycle kind endpoint slot = field 0 1 (flag cycle) ∷ field 10 6 kind ∷ field 16 5 endpoint ∷ field 24 8 slot ∷ []
+commandControl cycle type endpoint slot = field 0 1 (flag cycle) ∷ field 10 6 type ∷ field 16 5 endpoint ∷ field 24 8 slot ∷ []
 
 -- ---- every TRB
 
 abbrev pub layout : Trb → Bool → Layout
 layout (Normal address length size target short chain interrupt) cycle =
     record { w0 = addressLow address; w1 = addressHigh address; w2 = sizes length size target; w3 = normalControl cycle short chain interrupt }
-layout (Setup kind request value index length transfer) cycle =
-    record { w0 = setupRequest kind request value; w1 = setupIndex index length; w2 = field 0 17 8 ∷ []; w3 = setupControl cycle transfer }
+layout (Setup type request value index length transfer) cycle =
+    record { w0 = setupRequest type request value; w1 = setupIndex index length; w2 = field 0 17 8 ∷ []; w3 = setupControl cycle transfer }
 layout (Data address length short incoming) cycle =
     record { w0 = addressLow address; w1 = addressHigh address; w2 = sizes length 0 0; w3 = dataControl cycle short incoming }
 layout (Status interrupt incoming) cycle =
@@ -105,16 +105,16 @@ layout (SetDequeue address state endpoint slot) cycle =
     record { w0 = pointerLow address state; w1 = addressHigh address; w2 = []; w3 = commandControl cycle 16 endpoint slot }
 
 -- The type of each (6.4.6).
-abbrev pub kindOf : Trb → ℕ
-kindOf (Normal address length size target short chain interrupt) = 1
-kindOf (Setup kind request value index length transfer) = 2
-kindOf (Data address length short incoming) = 3
-kindOf (Status interrupt incoming) = 4
-kindOf (Isoch address length bursts target short chain interrupt block last frame asap) = 5
-kindOf (Link address toggle chain) = 6
-kindOf (ResetEndpoint endpoint slot) = 14
-kindOf (StopEndpoint endpoint slot) = 15
-kindOf (SetDequeue address state endpoint slot) = 16
+abbrev pub typeNumber : Trb → ℕ
+typeNumber (Normal address length size target short chain interrupt) = 1
+typeNumber (Setup type request value index length transfer) = 2
+typeNumber (Data address length short incoming) = 3
+typeNumber (Status interrupt incoming) = 4
+typeNumber (Isoch address length bursts target short chain interrupt block last frame asap) = 5
+typeNumber (Link address toggle chain) = 6
+typeNumber (ResetEndpoint endpoint slot) = 14
+typeNumber (StopEndpoint endpoint slot) = 15
+typeNumber (SetDequeue address state endpoint slot) = 16
 
 -- The words that have these fields.
 abbrev pub wordsIn : Layout → Words

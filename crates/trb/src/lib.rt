@@ -23,7 +23,7 @@ pub enum Trb {
         interrupt: bool,
     },
     Setup {
-        kind: u8,
+        request_type: u8,
         request: u8,
         value: u16,
         index: u16,

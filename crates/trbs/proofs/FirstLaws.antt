@@ -5,7 +5,7 @@ use mathlib.Core.List.{List}
 use mathlib.Core.Path.{_≡_, sym}
 use Rattle.records.specs.declared.Record.{Record}
 use Rattle.dock.specs.declared.Endpoint.{Endpoint}
-use Rattle.dock.specs.Stores.{deferred, firstTrb}
+use Rattle.dock.specs.Trbs.{deferred, firstTrb}
 use Rattle.dock.proofs.TdLaws.{first-setup}
 use Rattle.trbs.specs.Trbs.{firstOf}
 

@@ -7,7 +7,7 @@ use Rattle.trb.specs.declared.Trb.{Trb}
 use Rattle.sizes.specs.Sizes.{control, isoch}
 use Rattle.records.specs.declared.Record.{Record}
 use Rattle.dock.specs.declared.Endpoint.{Endpoint}
-use Rattle.dock.specs.Stores.{setupTrb, dataTrb, statusTrb, normalTrb, isochTrb}
+use Rattle.dock.specs.Trbs.{setupTrb, dataTrb, statusTrb, normalTrb, isochTrb}
 
 -- The first TRB of a deferred TD, which goes by its record alone: a control request's setup.
 unfoldable pub firstOf : Record → Trb

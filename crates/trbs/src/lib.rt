@@ -4,7 +4,7 @@ ghost use mathlib.Core.Bool.{not, _&&_};
 ghost use Prim.Native.Nat.{_≤_};
 ghost use lib.Dec.{ltb};
 ghost use Rattle.sizes.specs.Sizes.{packetCount};
-ghost use Rattle.dock.specs.Stores.{transferType, setupTrb, dataTrb, statusTrb, normalTrb, packetTrb, isochTrb};
+ghost use Rattle.dock.specs.Trbs.{transferType, setupTrb, dataTrb, statusTrb, normalTrb, packetTrb, isochTrb};
 ghost use Rattle.trbs.specs.Trbs.{firstOf, controlTrb, trbWith};
 use bursts::Bursts;
 use dock::Endpoint;
@@ -28,7 +28,7 @@ fn setup_trb(v: Record) -> Trb
     ensures { λ r. ⌜ r ≡ setupTrb v ⌝ }
 {
     Trb::Setup {
-        kind: (v.setup % 0x100) as u8,
+        request_type: (v.setup % 0x100) as u8,
         request: (v.setup / 0x100 % 0x100) as u8,
         value: (v.setup / 0x1_0000 % 0x1_0000) as u16,
         index: (v.setup / 0x1_0000_0000 % 0x1_0000) as u16,

@@ -37,10 +37,10 @@ pub fn sized(length: u32, size: u32, target: u32) -> u32
     length % 0x2_0000 + size % 32 * 0x2_0000 + target % 1024 * 0x40_0000
 }
 
-pub fn request(kind: u8, request: u8, value: u16) -> u32
-    ensures { λ r. ⌜ r ≡ word (setupRequest kind request value) ⌝ }
+pub fn request(flags: u8, request: u8, value: u16) -> u32
+    ensures { λ r. ⌜ r ≡ word (setupRequest flags request value) ⌝ }
 {
-    kind as u32 + request as u32 * 0x100 + value as u32 * 0x1_0000
+    flags as u32 + request as u32 * 0x100 + value as u32 * 0x1_0000
 }
 
 pub fn index(index: u16, length: u16) -> u32
@@ -97,8 +97,8 @@ pub fn link(cycle: bool, toggle: bool, chain: bool) -> u32
 }
 
 // A command for an endpoint, of any type.
-pub fn command(cycle: bool, kind: u32, endpoint: u8, slot: u8) -> u32
-    ensures { λ r. ⌜ r ≡ word (commandControl cycle kind endpoint slot) ⌝ }
+pub fn command(cycle: bool, form: u32, endpoint: u8, slot: u8) -> u32
+    ensures { λ r. ⌜ r ≡ word (commandControl cycle form endpoint slot) ⌝ }
 {
-    bit(cycle) + kind % 64 * 0x400 + endpoint as u32 % 32 * 0x1_0000 + slot as u32 * 0x100_0000
+    bit(cycle) + form % 64 * 0x400 + endpoint as u32 % 32 * 0x1_0000 + slot as u32 * 0x100_0000
 }

@@ -1,6 +1,6 @@
 -- `checks::fits` meets its contract, by its tests. Assumes nothing.
 use Rattle.base.proofs.Decide.{passed, failed}
-use Rattle.dock.specs.Fit.{fits}
+use Rattle.dock.specs.RowOne.{fits}
 use borrow.Author.Needs.{needs}
 use Rattle.checks.proofs.fits.Statement.{statement}
 use Rattle.checks.proofs.fits.Tie as tie

@@ -2,7 +2,7 @@
 use native.Mathlib.Omega.{arith}
 use borrow.Author.Tests.{eq-eqb, ne-eqb}
 use Rattle.base.proofs.Decide.{passed, failed}
-use Rattle.dock.specs.Fit.{fitsWith}
+use Rattle.dock.specs.RowOne.{fitsWith}
 use Rattle.checks.proofs.Laws.{fit}
 use borrow.Author.Needs.{needs}
 use Rattle.checks.proofs.fits_with.Statement.{statement}

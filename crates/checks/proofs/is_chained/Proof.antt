@@ -1,6 +1,6 @@
 -- `checks::is_chained` meets its contract: it is the definition. Assumes nothing.
 use mathlib.Core.Path.{refl}
-use Rattle.dock.specs.Stores.{chained}
+use Rattle.dock.specs.Trbs.{chained}
 use Rattle.checks.proofs.is_chained.Statement.{statement}
 use Rattle.checks.proofs.is_chained.Tie as tie
 

@@ -1,6 +1,6 @@
 -- `checks::is_deferred` meets its contract: it is the definition. Assumes nothing.
 use mathlib.Core.Path.{refl}
-use Rattle.dock.specs.Stores.{deferred}
+use Rattle.dock.specs.Trbs.{deferred}
 use Rattle.checks.proofs.is_deferred.Statement.{statement}
 use Rattle.checks.proofs.is_deferred.Tie as tie
 

@@ -2,7 +2,7 @@
 use mathlib.Core.Path.{sym, _∙_, ap}
 use native.Mathlib.Omega.{arith}
 use Rattle.base.proofs.Decide.{if-so, if-not, by-leb}
-use Rattle.dock.specs.Stores.{trbCount}
+use Rattle.dock.specs.Trbs.{trbCount}
 use Rattle.checks.specs.Step.{named}
 use borrow.Author.Needs.{needs}
 use Rattle.checks.proofs.is_past.Statement.{statement}

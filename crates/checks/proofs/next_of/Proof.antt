@@ -2,8 +2,8 @@
 use Prim.Native.Nat.{_+_}
 use native.Mathlib.Omega.{arith}
 use Rattle.base.proofs.Decide.{if-so, if-not, by-eqb, by-ltb, passed, failed}
-use Rattle.dock.specs.Fit.{nextOf}
-use Rattle.dock.specs.Stores.{trbCount}
+use Rattle.dock.specs.RowOne.{nextOf}
+use Rattle.dock.specs.Trbs.{trbCount}
 use borrow.Author.Needs.{needs}
 use Rattle.checks.proofs.next_of.Statement.{statement}
 use Rattle.checks.proofs.next_of.Tie as tie

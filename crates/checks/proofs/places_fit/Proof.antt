@@ -1,6 +1,6 @@
 -- `checks::places_fit` meets its contract: its two halves. Assumes nothing.
 use Rattle.base.proofs.Decide.{passed, failed}
-use Rattle.dock.specs.Fit.{placesFit}
+use Rattle.dock.specs.RowOne.{placesFit}
 use Rattle.limits.specs.Places.{placeFits, firstFits}
 use borrow.Author.Needs.{needs}
 use Rattle.checks.proofs.places_fit.Statement.{statement}

@@ -1,7 +1,7 @@
 -- `checks::strays` meets its contract, by its tests. Assumes nothing.
 use borrow.Author.Tests.{not-true, not-false, eq-eqb, ne-eqb, le-ltb, lt-ltb}
 use Rattle.base.proofs.Decide.{passed, failed}
-use Rattle.dock.specs.Fit.{strays}
+use Rattle.dock.specs.RowOne.{strays}
 use borrow.Author.Needs.{needs}
 use Rattle.checks.proofs.strays.Statement.{statement}
 use Rattle.checks.proofs.strays.Tie as tie

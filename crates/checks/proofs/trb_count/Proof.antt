@@ -4,7 +4,7 @@ use mathlib.Core.Path.{_≡_}
 use native.Mathlib.Omega.{arith}
 use borrow.Author.Tests.{eq-eqb, ne-eqb}
 use Rattle.sizes.specs.Sizes.{packetCount}
-use Rattle.dock.specs.Stores.{trbCount}
+use Rattle.dock.specs.Trbs.{trbCount}
 use Rattle.checks.proofs.trb_count.Statement.{statement}
 use Rattle.checks.proofs.trb_count.Tie as tie
 

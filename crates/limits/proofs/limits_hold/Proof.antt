@@ -1,7 +1,7 @@
 -- `limits::limits_hold` meets its contract: at each return the tests of the code decide the facts `Limits`. Assumes nothing.
 use native.Mathlib.Omega.{arith}
 use Rattle.base.proofs.Decide.{holds, fails}
-use Rattle.dock.proofs.TestLaws.{by-limits}
+use Rattle.dock.proofs.RefusalTestLaws.{by-limits}
 use borrow.Author.Needs.{needs}
 use Rattle.limits.proofs.limits_hold.Statement.{statement}
 use Rattle.limits.proofs.limits_hold.Tie as tie

@@ -8,7 +8,7 @@ use borrow.Author.Needs.{needs}
 use denote.Ref.{now}
 use Rattle.sizes.specs.Sizes.{recordCount}
 use Rattle.ids.proofs.AnyLaws.{any-none, any-one}
-use Rattle.dock.specs.Fit.{flies}
+use Rattle.dock.specs.RowOne.{flies}
 use Rattle.resetting.proofs.some_flying.Statement.{statement}
 use Rattle.resetting.proofs.some_flying.Tie as tie
 

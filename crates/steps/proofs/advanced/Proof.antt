@@ -6,7 +6,7 @@ use Rattle.steps.proofs.advanced.Tie as tie
 
 returns : tie.Need-returns
 unfolding advancedBy
-returns c = simp (c .moved .ensures, c .before .worked .ensures, c .before .before .before .before .run-on .ensures, c .before .before .before .before .before .frame-on .ensures)
+returns c = simp (c .with-store .ensures, c .before .with-stored .ensures, c .before .before .before .before .run-on .ensures, c .before .before .before .before .before .frame-on .ensures)
 
 pub advanced-spec : {M : Type 1} → statement M
 advanced-spec =

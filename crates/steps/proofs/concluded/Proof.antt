@@ -1,7 +1,7 @@
 -- `concluded` meets its contract, by what the next store is. Assumes nothing.
 use mathlib.Core.Path.{sym, _∙_, ap}
 use Rattle.checks.specs.Step.{named}
-use Rattle.dock.specs.Store.{settled}
+use Rattle.dock.specs.NextStore.{settled}
 use Rattle.steps.specs.Steps.{concludedBy}
 use borrow.Author.Needs.{needs}
 use Rattle.steps.proofs.concluded.Statement.{statement}

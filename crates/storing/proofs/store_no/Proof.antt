@@ -2,7 +2,7 @@
 use mathlib.Core.Path.{refl}
 use denote.Ref.{now}
 use Rattle.base.proofs.Chosen.{folded}
-use Rattle.dock.specs.Store.{storeNo, storeTests}
+use Rattle.dock.specs.NextStore.{storeNo, storeTests}
 use borrow.Author.Needs.{needs}
 use Rattle.storing.proofs.store_no.Statement.{statement}
 use Rattle.storing.proofs.store_no.Tie as tie

@@ -6,8 +6,8 @@ use native.Mathlib.Omega.{arith}
 use denote.Ref.{now}
 use Rattle.checks.specs.Step.{named}
 use Rattle.checks.proofs.Laws.{count-most, trb-left}
-use Rattle.dock.specs.Fit.{theFirst}
-use Rattle.dock.proofs.NextLaws.{because}
+use Rattle.dock.specs.RowOne.{theFirst}
+use Rattle.dock.proofs.StoreNextLaws.{because}
 use Rattle.dock.specs.declared.StoredOne.{StoredOne}
 use Rattle.packets.specs.declared.Packet.{Packet}
 use Rattle.storing.specs.Stored.{trbBy, storedBy}

@@ -3,7 +3,7 @@ use mathlib.Core.Path.{_≡_, sym, _∙_}
 use borrow.Author.Tests.{ne-eqb}
 use denote.Ref.{now}
 use lib.ListN.{length}
-use Rattle.dock.specs.Store.{storeNo, store}
+use Rattle.dock.specs.NextStore.{storeNo, store}
 use Rattle.storing.specs.Stored.{storedWith, storedBy}
 use Rattle.storing.proofs.StoreLaws.{ready}
 use borrow.Author.Needs.{needs}

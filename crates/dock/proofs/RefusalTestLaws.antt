@@ -26,12 +26,12 @@ use Rattle.dock.specs.declared.Endpoint.{Endpoint}
 use Rattle.dock.specs.declared.Identity.{Identity}
 use Rattle.dock.specs.declared.Shape.{Shape}
 use Rattle.dock.specs.declared.What.the-variants.{Control, Bulk, Interrupt, Isoch}
-use Rattle.dock.specs.Fit.{fits, placesFit, fitsWith, strays, flies, nextOf, isNone}
+use Rattle.dock.specs.RowOne.{fits, placesFit, fitsWith, strays, flies, nextOf, isNone}
 use Rattle.dock.specs.HandOver.{isOutside, slotFor, foreign}
 use Rattle.dock.specs.Limits.{limitsHold}
 use Rattle.dock.specs.Make.{sized}
 use Rattle.dock.specs.Start.{crowded, sumOf, someOver, tooLong, isFull, beyond}
-use Rattle.dock.specs.Stores.{trbCount}
+use Rattle.dock.specs.Trbs.{trbCount}
 
 -- ---- what a dock may hold
 
@@ -251,12 +251,12 @@ by-outside slot.Outside = record { so = λ e. refl; not-so = λ e k. false≢tru
 -- "Event not type 32, other slot or endpoint id, or address not one of the L slots."
 pub by-foreign : (e : Endpoint) (w : Words)
     → Decides (foreign e w)
-    ((((eventOf w .kind ≡ 32 → ⊥) ⊎ (eventOf w .slot ≡ e .who .slot → ⊥)) ⊎ (eventOf w .endpoint ≡ e .who .dci → ⊥))
+    ((((eventOf w .form ≡ 32 → ⊥) ⊎ (eventOf w .slot ≡ e .who .slot → ⊥)) ⊎ (eventOf w .endpoint ≡ e .who .dci → ⊥))
     ⊎ (slotOf (e .shape .base) (e .shape .slots) (eventOf w .address) ≡ slot.Outside))
 unfolding foreign slotFor
 by-foreign e w =
     either
     (either
-    (either (negated (by-eqb (eventOf w .kind) 32)) (negated (by-eqb (eventOf w .slot) (e .who .slot))))
+    (either (negated (by-eqb (eventOf w .form) 32)) (negated (by-eqb (eventOf w .slot) (e .who .slot))))
     (negated (by-eqb (eventOf w .endpoint) (e .who .dci))))
     (by-outside (slotOf (e .shape .base) (e .shape .slots) (eventOf w .address)))

@@ -27,13 +27,13 @@ use Rattle.dock.specs.declared.ReclaimedOne.{ReclaimedOne}
 use Rattle.dock.specs.Worth.{accepted}
 use Rattle.dock.specs.Reclaim.{completion, complete, codeOf, bulkBy, reclaimBulk, Seen, onward, ends, stageBy, statusBy, recordedBy, statusPlace, dataSeen, afterStage, reclaimControl, Swept, unfinished, fatal, found, sweep, sweptAnswer, reclaimIso, reclaimNo, reclaimFlying, reclaimFound, reclaim}
 use Rattle.dock.specs.Run.{State, reclaims, after, Reached}
-use Rattle.dock.proofs.BooksLaws.{by-flies}
+use Rattle.dock.proofs.ReachedBookLaws.{by-flies}
 use Rattle.dock.proofs.RetireLaws.{picked}
 use Rattle.dock.proofs.ReclaimLaws.{Measured}
-use Rattle.dock.proofs.InvariantLaws.{reached-sound}
-use Rattle.dock.proofs.FitLaws.{reached-placed}
-use Rattle.dock.proofs.OnceLaws.{Has, held-found}
-use Rattle.dock.proofs.CompletionLaws.{done-reports, never-done, bulk-length, control-length, iso-length}
+use Rattle.dock.proofs.ReachedSoundLaws.{reached-sound}
+use Rattle.dock.proofs.ReachedFitLaws.{reached-placed}
+use Rattle.dock.proofs.ReclaimOnceLaws.{Has, held-found}
+use Rattle.dock.proofs.ReclaimAnswerLaws.{done-reports, never-done, bulk-length, control-length, iso-length}
 
 -- ---- a completion is its own request's
 

@@ -12,12 +12,12 @@ use Rattle.base.specs.First.{pick}
 use Rattle.base.proofs.Decide.{Decides, by-eqb, by-true, both, if-so, if-not}
 use Rattle.records.specs.declared.Record.{Record}
 use Rattle.dock.specs.declared.Endpoint.{Endpoint}
-use Rattle.dock.specs.Fit.{fitsWith, Next, theLink, theTrb, theFirst, none, nextOf}
+use Rattle.dock.specs.RowOne.{fitsWith, Next, theLink, theTrb, theFirst, none, nextOf}
 use Rattle.sizes.specs.Sizes.{ringSize, recordsSize, packetsSize}
-use Rattle.dock.specs.Store.{storeTests, storeNo}
-use Rattle.dock.specs.Stores.{trbCount, deferred}
+use Rattle.dock.specs.NextStore.{storeTests, storeNo}
+use Rattle.dock.specs.Trbs.{trbCount, deferred}
 use Rattle.dock.proofs.RefusalLaws.{store-exact}
-use Rattle.dock.proofs.TestLaws.{Fits, FitsWith, OnCourse, by-fits-with, on-course, by-strays}
+use Rattle.dock.proofs.RefusalTestLaws.{Fits, FitsWith, OnCourse, by-fits-with, on-course, by-strays}
 
 -- ---- which store is next
 

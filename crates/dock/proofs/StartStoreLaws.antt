@@ -17,13 +17,13 @@ use Rattle.dock.specs.declared.Endpoint.{Endpoint}
 use Rattle.dock.specs.declared.Request.{Request}
 use Rattle.dock.specs.declared.What.{What}
 use Rattle.dock.specs.declared.What.the-variants.{Control, Bulk, Interrupt, Isoch}
-use Rattle.dock.specs.Fit.{theTrb, nextOf, isNone}
+use Rattle.dock.specs.RowOne.{theTrb, nextOf, isNone}
 use Rattle.sizes.specs.Sizes.{ringSize}
 use Rattle.dock.specs.Requests.{countFor, required, withWhat, recordFor}
 use Rattle.dock.specs.Start.{startNo, tooLong, recordTaken, idTaken, charged, writePackets, startedEndpoint, startedRecords}
-use Rattle.dock.specs.Stores.{trbCount}
-use Rattle.dock.proofs.NextLaws.{is-next, Storing}
-use Rattle.dock.proofs.AskedLaws.{few-packets, written-length}
+use Rattle.dock.specs.Trbs.{trbCount}
+use Rattle.dock.proofs.StoreNextLaws.{is-next, Storing}
+use Rattle.dock.proofs.StartPacketLaws.{few-packets, written-length}
 use Rattle.dock.proofs.StartLaws.{Starting, start-admitted, record-below, record-taken, record-written, records-length}
 
 -- A record that is kept of an admitted request has as many TRBs as the request takes, and at least one.

@@ -30,13 +30,13 @@ use Rattle.dock.specs.Reclaim.{codeOf, remainingOf, placeOf, counted, re
 use Rattle.dock.specs.Run.{State, hands, reclaims, Reached}
 use Rattle.dock.specs.Run as run
 use Rattle.dock.proofs.RetireLaws.{picked}
-use Rattle.dock.proofs.InvariantLaws.{slot-below, fill-long, slots-some, reached-sound}
-use Rattle.dock.proofs.FitLaws.{reclaim-number}
-use Rattle.dock.proofs.OnceLaws.{Has, held-found}
-use Rattle.dock.proofs.SettledLaws.{Refuses}
-use Rattle.dock.proofs.CountedLaws.{Walks, few, packet-exact, packet-moved, done-marked}
-use Rattle.dock.proofs.RequestedLaws.{reached-modest}
-use Rattle.dock.proofs.NeededLaws.{Needed, reclaim-needs}
+use Rattle.dock.proofs.ReachedSoundLaws.{slot-below, fill-long, slots-some, reached-sound}
+use Rattle.dock.proofs.ReachedFitLaws.{reclaim-number}
+use Rattle.dock.proofs.ReclaimOnceLaws.{Has, held-found}
+use Rattle.dock.proofs.ReclaimSettleLaws.{Refuses}
+use Rattle.dock.proofs.ReclaimCountLaws.{Walks, few, packet-exact, packet-moved, done-marked}
+use Rattle.dock.proofs.ReachedPacketLaws.{reached-modest}
+use Rattle.dock.proofs.ReclaimNeedLaws.{Needed, reclaim-needs}
 
 -- ---- the packets of an ISO request in flight, with nothing under way
 

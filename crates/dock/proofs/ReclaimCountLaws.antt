@@ -38,11 +38,11 @@ use Rattle.dock.specs.Worth.{Worth, bytes, refused, counts, worth}
 use Rattle.dock.specs.Residual.{Told, Tells, Writes, credit}
 use Rattle.dock.specs.Reclaim.{codeOf, remainingOf, placeOf, counted, Swept, unfinished, fatal, found, sweep, sweptAnswer, reclaimIso, badRecord, reclaimTests, reclaimNo, reclaimFlying, reclaimFound, reclaim}
 use Rattle.dock.proofs.RefusalLaws.{reclaim-acts}
-use Rattle.dock.proofs.ResidualLaws.{worth-residual}
+use Rattle.dock.proofs.ReclaimResidualLaws.{worth-residual}
 use Rattle.dock.proofs.RetireLaws.{picked}
-use Rattle.dock.proofs.InvariantLaws.{by-fits-with, few-packets}
-use Rattle.dock.proofs.CompletionLaws.{never-done, refused-not-done}
-use Rattle.dock.proofs.SettledLaws.{credited, unmarkedBy, settled, Refuses, isFound, Ending, ran, broke, closed, Settles, sweep-settles}
+use Rattle.dock.proofs.ReachedSoundLaws.{by-fits-with, few-packets}
+use Rattle.dock.proofs.ReclaimAnswerLaws.{never-done, refused-not-done}
+use Rattle.dock.proofs.ReclaimSettleLaws.{credited, unmarkedBy, settled, Refuses, isFound, Ending, ran, broke, closed, Settles, sweep-settles}
 
 -- A reclaim that is not refused, of an ISO request in flight, whose record is r.
 pub record Walks (e : Endpoint) (finished records packets : List ℕ) (id r : ℕ) : Type 0 where

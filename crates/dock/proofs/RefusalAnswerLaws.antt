@@ -16,7 +16,7 @@ use Rattle.dock.specs.declared.Taken.{Taken}
 use Rattle.sizes.specs.Sizes.{ringSize}
 use Rattle.dock.specs.Configure.{plainNo}
 use Rattle.dock.specs.Start.{startNo}
-use Rattle.dock.specs.Store.{storeNo}
+use Rattle.dock.specs.NextStore.{storeNo}
 use Rattle.dock.specs.HandOver.{handOverNo}
 use Rattle.dock.specs.Reclaim.{reclaimNo}
 use Rattle.dock.specs.Cancel.{cancelNo}

@@ -20,21 +20,21 @@ use Rattle.dock.specs.declared.Shape.{Shape}
 use Rattle.dock.specs.declared.StoredAll.{StoredAll}
 use Rattle.dock.specs.declared.StoredOne.{StoredOne}
 use Rattle.dock.specs.declared.Submitted.the-variants as submitted
-use Rattle.dock.specs.Fit.{Next, theLink, theTrb, theFirst, none, nextOf, isNone}
+use Rattle.dock.specs.RowOne.{Next, theLink, theTrb, theFirst, none, nextOf, isNone}
 use Rattle.sizes.specs.Sizes.{ringSize}
 use Rattle.dock.specs.Requests.{required}
 use Rattle.dock.specs.Start.{startNo, startedEndpoint, startedRecords, recordTaken, idTaken, charged, writePackets}
 use Rattle.dock.specs.State.{idle}
-use Rattle.dock.specs.Store.{storeNo, store, stepped}
-use Rattle.dock.specs.Stores.{trbCount}
+use Rattle.dock.specs.NextStore.{storeNo, store, stepped}
+use Rattle.dock.specs.Trbs.{trbCount}
 use Rattle.dock.specs.Submit.{afterStore, finish, mostStores, submit}
-use Rattle.dock.proofs.NextLaws.{because, Storing, store-admits}
+use Rattle.dock.proofs.StoreNextLaws.{because, Storing, store-admits}
 use Rattle.dock.proofs.RefusalLaws.{submit-acts}
 use Rattle.dock.proofs.StartLaws.{start-admitted, record-written}
-use Rattle.dock.proofs.StartedLaws.{started-storing, started-count}
-use Rattle.dock.proofs.StepLaws.{Kept, step-keeps, step-works, first-is-last, store-keeps, store-goes-on, store-ends}
+use Rattle.dock.proofs.StartStoreLaws.{started-storing, started-count}
+use Rattle.dock.proofs.StoreStepLaws.{Kept, step-keeps, step-works, first-is-last, store-keeps, store-goes-on, store-ends}
 use Rattle.dock.proofs.StoreLaws.{flyingRecord, nextStore, steppedNext, lastStore, ring-length, finished-length}
-use Rattle.dock.proofs.TestLaws.{Fits}
+use Rattle.dock.proofs.RefusalTestLaws.{Fits}
 
 -- ---- from one store to the next
 

@@ -29,7 +29,7 @@ use Rattle.records.specs.Records.{inFlight, stopped, recordAt, recordList, setW
 use Rattle.records.specs.declared.Record.{Record}
 use Rattle.records.proofs.RecordLaws.{id-is, record-put, record-other, set-length}
 use Rattle.dock.specs.declared.Account.{Account}
-use Rattle.dock.specs.Fit.{flies}
+use Rattle.dock.specs.RowOne.{flies}
 use Rattle.dock.specs.Reclaim.{freed}
 use Rattle.dock.specs.Start.{charged}
 use Rattle.dock.proofs.Reached.{flightPart, flightSum, Books}

@@ -43,15 +43,15 @@ use Rattle.dock.specs.declared.Request.{Request}
 use Rattle.dock.specs.declared.What.{What}
 use Rattle.dock.specs.declared.What.the-variants.{Control, Bulk, Interrupt, Isoch}
 use Rattle.dock.specs.Limits.{limitsHold}
-use Rattle.dock.specs.Fit.{placesFit, fits, flies, strays, fitsWith, Next, theLink, theTrb, theFirst, none, nextOf, isNone}
-use Rattle.dock.specs.State.{fresh, idle, moved}
+use Rattle.dock.specs.RowOne.{placesFit, fits, flies, strays, fitsWith, Next, theLink, theTrb, theFirst, none, nextOf, isNone}
+use Rattle.dock.specs.State.{fresh, idle, withStore}
 use Rattle.dock.specs.Make.{makeNo, make, zeros}
 use Rattle.dock.specs.Configure.{plainTests, plainNo, configure}
 use Rattle.dock.specs.Requests.{countFor, withWhat, recordFor, required}
 use Rattle.dock.specs.Start.{crowded, tooLong, someOver, sumOf, startTests, startNo, recordTaken, idTaken, charged, writePackets, startedEndpoint, startedRecords, start}
-use Rattle.dock.specs.Stores.{trbCount, deferred}
-use Rattle.dock.specs.Store.{storeTests, storeNo, stepped, settled}
-use Rattle.dock.specs.Store as storing
+use Rattle.dock.specs.Trbs.{trbCount, deferred}
+use Rattle.dock.specs.NextStore.{storeTests, storeNo, stepped, settled}
+use Rattle.dock.specs.NextStore as storing
 use Rattle.dock.specs.Reclaim.{leave, nothing, badRecord, reclaimTests, reclaimNo, reclaim}
 use Rattle.dock.specs.Cancel.{marked, cancelTests, cancelNo, cancel}
 use Rattle.dock.specs.Retire.{recordTests, recordNo, retiredBelow, retire}
@@ -59,11 +59,11 @@ use Rattle.dock.specs.Reset.{beginNo, beginReset, endNo, endReset}
 use Rattle.dock.specs.Run.{State, stateOf, madeOf, Made, making, Call, configures, starts, stores, submits, hands, reclaims, cancels, retires, begins, ends, stops, resumes, points, Reached}
 use Rattle.dock.specs.Run as run
 use Rattle.dock.proofs.Reached.{flightPart, Sound, reached-has}
-use Rattle.dock.proofs.BooksLaws.{Alike, by-flies, still-held}
+use Rattle.dock.proofs.ReachedBookLaws.{Alike, by-flies, still-held}
 use Rattle.dock.proofs.RetireLaws.{picked, none-flies, retired-none}
 use Rattle.dock.proofs.SubmitLaws.{submit-keeps}
 use Rattle.dock.proofs.ReclaimLaws.{Left, Measured, own-measured}
-use Rattle.dock.proofs.InvariantLaws.{either-true, both-false, left-true, right-true, by-true, by-not, by-fits, by-fits-with, place-slot, first-slot, stepped-follows, settled-follows, store-busy, taken, short, started-sound, fresh-sound, not-done, slots-some, marked-alike, Untouched, Looked, reclaim-result, reclaim-idle, after-sound, reached-sound}
+use Rattle.dock.proofs.ReachedSoundLaws.{either-true, both-false, left-true, right-true, by-true, by-not, by-fits, by-fits-with, place-slot, first-slot, stepped-follows, settled-follows, store-busy, taken, short, started-sound, fresh-sound, not-done, slots-some, marked-alike, Untouched, Looked, reclaim-result, reclaim-idle, after-sound, reached-sound}
 
 -- ---- places as facts on numbers
 
@@ -234,7 +234,7 @@ module _ (v : Record) (after : Endpoint) (k : Stepping v after) where
   unfolding settled
   settled-places =
       picked (λ (x : Endpoint). placesFit x ≡ true) (isNone (nextOf after v)) _ _
-      (λ t. places-true (moved after (after .at) (after .periodic .frame) idle) (k .room)
+      (λ t. places-true (withStore after (after .at) (after .periodic .frame) idle) (k .room)
       (λ q. absurd (never-both t (ap isNone (link-next after v q)))) (λ b. absurd (never-both b refl)))
       (λ t. places-true after (k .room) (λ q. (k .busy, k .last q)) (λ b. k .first))
 
@@ -243,7 +243,7 @@ module _ (v : Record) (after : Endpoint) (k : Stepping v after) where
   unfolding settled
   settled-straight records same within flying =
       picked (λ (x : Endpoint). strays x records ≡ false) (isNone (nextOf after v)) _ _
-      (λ t. strays-none (moved after (after .at) (after .periodic .frame) idle) records (λ b. absurd (never-both b refl)))
+      (λ t. strays-none (withStore after (after .at) (after .periodic .frame) idle) records (λ b. absurd (never-both b refl)))
       (λ t. strays-none after records
       (λ b. record {
         within = within;

@@ -37,11 +37,11 @@ use Rattle.dock.specs.Reclaim.{codeOf, remainingOf, placeOf, Swept, swee
 use Rattle.dock.specs.Run.{State, Made, making, Call, configures, starts, stores, submits, hands, reclaims, cancels, retires, begins, ends, stops, resumes, points, after, Reached}
 use Rattle.dock.proofs.Reached.{reached-has}
 use Rattle.dock.proofs.SubmitLaws.{submit-keeps}
-use Rattle.dock.proofs.InvariantLaws.{not-done}
-use Rattle.dock.proofs.AskedLaws.{packet-short, one-short, packet-written, packet-behind, others-packets-kept}
+use Rattle.dock.proofs.ReachedSoundLaws.{not-done}
+use Rattle.dock.proofs.StartPacketLaws.{packet-short, one-short, packet-written, packet-behind, others-packets-kept}
 use Rattle.dock.proofs.StartLaws.{start-admitted}
-use Rattle.dock.proofs.SettledLaws.{credited, unmarkedBy, settled, isFound, Settles}
-use Rattle.dock.proofs.CountedLaws.{Walks, reclaim-walks, few, reclaim-settles}
+use Rattle.dock.proofs.ReclaimSettleLaws.{credited, unmarkedBy, settled, isFound, Settles}
+use Rattle.dock.proofs.ReclaimCountLaws.{Walks, reclaim-walks, few, reclaim-settles}
 use Rattle.dock.proofs.ReclaimLaws.{iso-own}
 use Rattle.dock.proofs.RetireLaws.{picked}
 

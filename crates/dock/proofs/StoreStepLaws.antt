@@ -16,12 +16,12 @@ use Rattle.records.specs.declared.Record.{Record}
 use Rattle.ring.specs.declared.Position.{Position}
 use Rattle.dock.specs.declared.Endpoint.{Endpoint}
 use Rattle.dock.specs.declared.Stored.the-variants.{Slot, Last}
-use Rattle.dock.specs.Fit.{Next, theLink, theTrb, theFirst, none, nextOf, isNone}
-use Rattle.dock.specs.State.{idle, moved}
-use Rattle.dock.specs.Store.{storeNo, store, firstCycle, stepped, slotStored, settled, storedAnswer}
-use Rattle.dock.specs.Stores.{trbCount, trbOf, deferred, firstTrb, linkFor}
+use Rattle.dock.specs.RowOne.{Next, theLink, theTrb, theFirst, none, nextOf, isNone}
+use Rattle.dock.specs.State.{idle, withStore}
+use Rattle.dock.specs.NextStore.{storeNo, store, firstCycle, stepped, slotStored, settled, storedAnswer}
+use Rattle.dock.specs.Trbs.{trbCount, trbOf, deferred, firstTrb, linkFor}
 use Rattle.dock.proofs.RefusalLaws.{store-acts}
-use Rattle.dock.proofs.NextLaws.{because, is-next}
+use Rattle.dock.proofs.StoreNextLaws.{because, is-next}
 use Rattle.dock.proofs.StoreLaws.{flyingRecord, nextStore, slotChanged, steppedNext, lastStore, trbStored, cycleStored, storing, ring-same}
 
 -- ---- the endpoint
@@ -45,7 +45,7 @@ step-keeps none e v packets = record { shape = refl; who = refl; account = refl;
 
 -- An endpoint whose submission is over keeps all but that.
 abbrev pub rested : Bool → Endpoint → Endpoint
-rested b e = pick b (moved e (e .at) (e .periodic .frame) idle) e
+rested b e = pick b (withStore e (e .at) (e .periodic .frame) idle) e
 
 rest-keeps : (b : Bool) (e after : Endpoint) → Kept e after → Kept e (rested b after)
 rest-keeps true e after k = record {

@@ -18,7 +18,7 @@ use Rattle.dock.specs.Worth.{bytes, counts, worth, accepted, movedBytes}
 use Rattle.dock.specs.Residual.{Told, residue, moved, nothing, Tells, success, shortPacket, stopped, stoppedShortPacket, stoppedLengthInvalid, Writes, credit}
 use Rattle.dock.specs.Reclaim.{complete, codeOf, remainingOf, bulkBy, reclaimBulk, recordedBy, recordedLength}
 use Rattle.dock.proofs.RetireLaws.{picked}
-use Rattle.dock.proofs.CompletionLaws.{done-size, refused-not-done}
+use Rattle.dock.proofs.ReclaimAnswerLaws.{done-size, refused-not-done}
 
 -- ---- what a controller may write
 

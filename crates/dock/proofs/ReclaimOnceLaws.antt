@@ -28,7 +28,7 @@ use Rattle.dock.specs.declared.Endpoint.{Endpoint}
 use Rattle.dock.specs.declared.Outcome.the-variants.{Done, Refused}
 use Rattle.dock.specs.declared.Reclaimed.the-variants as answer
 use Rattle.dock.specs.declared.ReclaimedOne.{ReclaimedOne}
-use Rattle.dock.specs.Fit.{placesFit, fits, strays, fitsWith}
+use Rattle.dock.specs.RowOne.{placesFit, fits, strays, fitsWith}
 use Rattle.dock.specs.State.{withAccount}
 use Rattle.dock.specs.Start.{idTaken}
 use Rattle.dock.specs.Reclaim.{leave, nothing, badRecord, reclaimTests, reclaimNo, reclaimFound, reclaim}
@@ -36,11 +36,11 @@ use Rattle.dock.specs.Cancel.{cancelTests, cancelNo, cancel}
 use Rattle.dock.specs.Retire.{recordTests, recordNo, retiredBelow, retire}
 use Rattle.dock.specs.Run.{State, reclaims, retires, after, Reached, next}
 use Rattle.dock.proofs.Reached.{flightPart, flightSum, Sound}
-use Rattle.dock.proofs.BooksLaws.{Alike, freed-here, freed-other, freed-exact}
+use Rattle.dock.proofs.ReachedBookLaws.{Alike, freed-here, freed-other, freed-exact}
 use Rattle.dock.proofs.RetireLaws.{picked, retiredAccount, retired-none, retired-stopped, retiring}
 use Rattle.dock.proofs.ReclaimLaws.{final, Left}
-use Rattle.dock.proofs.FitLaws.{reached-fits}
-use Rattle.dock.proofs.InvariantLaws.{by-fits-with, Untouched, Looked, reclaim-result, reclaim-idle, reached-sound}
+use Rattle.dock.proofs.ReachedFitLaws.{reached-fits}
+use Rattle.dock.proofs.ReachedSoundLaws.{by-fits-with, Untouched, Looked, reclaim-result, reclaim-idle, reached-sound}
 
 -- Outstanding is the sum of the counts of the requests in flight.
 pub outstanding-is-sum : {s : State} → Reached s → s .endpoint .account .outstanding ≡ flightSum (s .records) (s .endpoint .account .occupancy)

@@ -16,7 +16,7 @@ use Rattle.dock.specs.declared.Request.{Request}
 use Rattle.dock.specs.declared.Shape.{Shape}
 use Rattle.dock.specs.Cancel.{cancelTests, cancelNo, notFlying}
 use Rattle.dock.specs.Configure.{plainTests, plainNo}
-use Rattle.dock.specs.Fit.{fitsWith, fits}
+use Rattle.dock.specs.RowOne.{fitsWith, fits}
 use Rattle.dock.specs.HandOver.{handOverTests, handOverNo, foreign}
 use Rattle.sizes.specs.Sizes.{ringSize, packetsSize}
 use Rattle.dock.specs.Limits.{limitsHold}
@@ -26,7 +26,7 @@ use Rattle.dock.specs.Requests.{required}
 use Rattle.dock.specs.Reset.{beginTests, beginNo, endTests, endNo, occupied}
 use Rattle.dock.specs.Retire.{recordTests, recordNo}
 use Rattle.dock.specs.Start.{crowded, tooLong, isFull, beyond, startTests, startNo}
-use Rattle.dock.specs.Store.{storeTests, storeNo}
+use Rattle.dock.specs.NextStore.{storeTests, storeNo}
 
 -- "Making knows only 13, then 1."
 pub make-rows : (ring finished records packets : ℕ) (shape : Shape) (who : Identity)

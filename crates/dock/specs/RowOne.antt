@@ -12,7 +12,7 @@ use Rattle.records.specs.Records.{inFlight, recordAt}
 use Rattle.records.specs.declared.Record.{Record}
 use Rattle.dock.specs.declared.Endpoint.{Endpoint}
 use Rattle.dock.specs.Limits.{limitsHold}
-use Rattle.dock.specs.Stores.{trbCount, deferred}
+use Rattle.dock.specs.Trbs.{trbCount, deferred}
 
 -- "Place above L-2 except L-1 just before the link's store": with a submission under way of which a TRB is stored. The place of its first TRB is one too.
 unfoldable pub placesFit : Endpoint → Bool

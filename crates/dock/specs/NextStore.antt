@@ -15,9 +15,9 @@ use Rattle.dock.specs.declared.Stored.{Stored}
 use Rattle.dock.specs.declared.Stored.the-variants.{Slot, Last, Refused}
 use Rattle.dock.specs.declared.StoredOne.{StoredOne}
 use Rattle.dock.specs.declared.Work.{Work}
-use Rattle.dock.specs.Fit.{fitsWith, Next, theLink, theTrb, theFirst, none, nextOf, isNone}
-use Rattle.dock.specs.State.{idle, moved}
-use Rattle.dock.specs.Stores.{trbOf, packetSize, deferred, firstTrb, linkFor, frameAfter}
+use Rattle.dock.specs.RowOne.{fitsWith, Next, theLink, theTrb, theFirst, none, nextOf, isNone}
+use Rattle.dock.specs.State.{idle, withStore}
+use Rattle.dock.specs.Trbs.{trbOf, packetSize, deferred, firstTrb, linkFor, frameAfter}
 
 -- Row 1, then 10: "a store .. with none under way".
 unfoldable pub storeTests : Endpoint → ℕ → ℕ → List ℕ → ℕ → List (Bool × ℕ)
@@ -30,8 +30,8 @@ unfoldable pub storeNo : Endpoint → ℕ → ℕ → List ℕ → ℕ → ℕ
 storeNo e ring finished records packets = first (storeTests e ring finished records packets)
 
 -- The work with so many TRBs stored, and the running address, which an ISO packet moves on by its length, modulo 2^64.
-abbrev pub worked : Work → ℕ → ℕ → Work
-worked w stored address =
+abbrev pub withStored : Work → ℕ → ℕ → Work
+withStored w stored address =
     record { busy = true; number = w .number; stored = stored; address = address; place = w .place; cycle = w .cycle }
 
 abbrev pub runOn : Endpoint → Record → List ℕ → ℕ
@@ -47,9 +47,9 @@ firstCycle e v = pick (deferred v && eqb (e .work .stored) 0) (not (e .at .cycle
 
 -- The endpoint after a store; "reaching L-1 it adds a second store, the link at L-1 with the old cycle, then place 0 and the cycle toggled".
 unfoldable pub stepped : Next → Endpoint → Record → List ℕ → Endpoint
-stepped theLink e v packets = moved e (around (e .at)) (e .periodic .frame) (worked (e .work) (e .work .stored) (e .work .address))
-stepped theTrb e v packets = moved e (onward (e .at)) (frameOn e v) (worked (e .work) (e .work .stored + 1) (runOn e v packets))
-stepped theFirst e v packets = moved e (e .at) (e .periodic .frame) (worked (e .work) (e .work .stored + 1) (e .work .address))
+stepped theLink e v packets = withStore e (around (e .at)) (e .periodic .frame) (withStored (e .work) (e .work .stored) (e .work .address))
+stepped theTrb e v packets = withStore e (onward (e .at)) (frameOn e v) (withStored (e .work) (e .work .stored + 1) (runOn e v packets))
+stepped theFirst e v packets = withStore e (e .at) (e .periodic .frame) (withStored (e .work) (e .work .stored + 1) (e .work .address))
 stepped none e v packets = e
 
 -- The slot that the store changes,
@@ -75,7 +75,7 @@ finishedStored none e finished = finished
 
 -- After the last store nothing is under way.
 unfoldable pub settled : Endpoint → Record → Endpoint
-settled e v = pick (isNone (nextOf e v)) (moved e (e .at) (e .periodic .frame) idle) e
+settled e v = pick (isNone (nextOf e v)) (withStore e (e .at) (e .periodic .frame) idle) e
 
 unfoldable pub storedAnswer : Next → Endpoint → Endpoint → Record → Stored
 storedAnswer n before after v =

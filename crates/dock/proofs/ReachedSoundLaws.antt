@@ -50,15 +50,15 @@ use Rattle.dock.specs.declared.ResetBegun.{ResetBegun}
 use Rattle.dock.specs.declared.StoredOne.{StoredOne}
 use Rattle.dock.specs.declared.Taken.{Taken}
 use Rattle.dock.specs.Limits.{limitsHold}
-use Rattle.dock.specs.State.{fresh, idle, moved}
-use Rattle.dock.specs.Fit.{placesFit, fits, fitsWith, strays, Next, theLink, theTrb, theFirst, none, nextOf, isNone}
+use Rattle.dock.specs.State.{fresh, idle, withStore}
+use Rattle.dock.specs.RowOne.{placesFit, fits, fitsWith, strays, Next, theLink, theTrb, theFirst, none, nextOf, isNone}
 use Rattle.dock.specs.Make.{sized, makeTests, makeNo, make, zeros}
 use Rattle.dock.specs.Configure.{plainNo, configure}
 use Rattle.dock.specs.Requests.{recordFor}
 use Rattle.dock.specs.Start.{tooLong, isFull, startTests, startNo, recordTaken, numberFrom, idTaken, charged, atLeastOne, writePackets, startedEndpoint, startedRecords, start, someOver, sumOf}
-use Rattle.dock.specs.Stores.{trbOf, firstTrb, linkFor}
-use Rattle.dock.specs.Store.{storeTests, storeNo, stepped, ringStored, finishedStored, settled, firstCycle}
-use Rattle.dock.specs.Store as storing
+use Rattle.dock.specs.Trbs.{trbOf, firstTrb, linkFor}
+use Rattle.dock.specs.NextStore.{storeTests, storeNo, stepped, ringStored, finishedStored, settled, firstCycle}
+use Rattle.dock.specs.NextStore as storing
 use Rattle.dock.specs.HandOver.{slotNumber, slotFor, handOverNo, handOver}
 use Rattle.dock.specs.Reclaim.{leave, nothing, badRecord, reclaimTests, reclaimNo, reclaimFlying, reclaimFound, reclaim}
 use Rattle.dock.specs.Cancel.{marked, cancelNo, cancel}
@@ -66,7 +66,7 @@ use Rattle.dock.specs.Retire.{recordTests, recordNo, retiredBelow, retir
 use Rattle.dock.specs.Reset.{beginNo, beginReset, endNo, endReset}
 use Rattle.dock.specs.Run.{State, stateOf, madeOf, Made, making, Call, configures, starts, stores, submits, hands, reclaims, cancels, retires, begins, ends, stops, resumes, points, after, Reached}
 use Rattle.dock.proofs.Reached.{flightPart, flightSum, Books, Sound, reached-has}
-use Rattle.dock.proofs.BooksLaws.{Alike, alike-same, alike-set, flies-alike, books-alike, books-freed, books-taken, taken-long, taken-flies, part-flies, part-none}
+use Rattle.dock.proofs.ReachedBookLaws.{Alike, alike-same, alike-set, flies-alike, books-alike, books-freed, books-taken, taken-long, taken-flies, part-flies, part-none}
 use Rattle.dock.proofs.RetireLaws.{picked, sum-none, retiring, books-retired}
 use Rattle.dock.proofs.SubmitLaws.{submit-keeps}
 use Rattle.dock.proofs.ReclaimLaws.{final, Left, own-record-same, own-packets-same, Touches, flying-touches}
@@ -334,7 +334,7 @@ module _ (e : Endpoint) (p : placesFit e ≡ true) (b : e .work .busy ≡ true) 
 pub settled-follows : (e after : Endpoint) (v : Record) → Follows e after → Follows e (settled after v)
 unfolding settled
 settled-follows e after v f =
-    picked (Follows e) (isNone (nextOf after v)) (moved after (after .at) (after .periodic .frame) idle) after
+    picked (Follows e) (isNone (nextOf after v)) (withStore after (after .at) (after .periodic .frame) idle) after
     (λ t. record { shape = f .shape; who = f .who; account = f .account; work = λ w. absurd (never-both w refl) })
     (λ t. f)
 

@@ -17,7 +17,7 @@ use Rattle.packets.proofs.PacketLaws.{packet-reads}
 use Rattle.dock.specs.declared.What.{What}
 use Rattle.dock.specs.declared.What.the-variants.{Control, Bulk, Interrupt, Isoch}
 use Rattle.dock.specs.Start.{tooLong, atLeastOne, writePackets}
-use Rattle.dock.proofs.TestLaws.{by-too-long-isoch}
+use Rattle.dock.proofs.RefusalTestLaws.{by-too-long-isoch}
 
 -- An unmarked packet that asks for so much.
 abbrev pub asking : ℕ → Packet

@@ -29,16 +29,16 @@ use Rattle.dock.specs.declared.Completion.{Completion}
 use Rattle.dock.specs.declared.Endpoint.{Endpoint}
 use Rattle.dock.specs.declared.Reclaimed.the-variants as answer
 use Rattle.dock.specs.declared.ReclaimedOne.{ReclaimedOne}
-use Rattle.dock.specs.Stores.{trbCount}
+use Rattle.dock.specs.Trbs.{trbCount}
 use Rattle.dock.specs.Worth.{Worth, bytes, refused, worth, accepted}
 use Rattle.dock.specs.Reclaim.{complete, bulkBy, Seen, onward, ends, stageBy, statusBy, recordedBy, afterStage, codeOf, remainingOf, placeOf, counted, closeBelow, Swept, found, sweptBy, sweptAt, sweep, sweptAnswer, reclaimIso, dataSeen, dataPlace, statusPlace, reclaimControl, reclaimBulk, badRecord, reclaimTests, reclaimNo, reclaimFlying, reclaimFound, reclaim, nothing}
-use Rattle.dock.proofs.CompletionLaws.{never-done, refused-not-done}
+use Rattle.dock.proofs.ReclaimAnswerLaws.{never-done, refused-not-done}
 use Rattle.dock.proofs.RefusalLaws.{reclaim-acts}
-use Rattle.dock.proofs.InvariantLaws.{few-packets, both-false}
+use Rattle.dock.proofs.ReachedSoundLaws.{few-packets, both-false}
 use Rattle.dock.proofs.RetireLaws.{picked}
 use Rattle.dock.proofs.ReclaimLaws.{final}
-use Rattle.dock.proofs.SettledLaws.{Refuses, Ending, ran, broke, closed}
-use Rattle.dock.proofs.CountedLaws.{Walks, reclaim-settles, few}
+use Rattle.dock.proofs.ReclaimSettleLaws.{Refuses, Ending, ran, broke, closed}
+use Rattle.dock.proofs.ReclaimCountLaws.{Walks, reclaim-settles, few}
 
 -- A choice is the same where both sides are, each where the test leads to it.
 same-picks : {A : Type 0} (b : Bool) (x y x′ y′ : A) → (b ≡ true → x ≡ x′) → (b ≡ false → y ≡ y′) → pick b x y ≡ pick b x′ y′
