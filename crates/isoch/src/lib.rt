@@ -48,7 +48,7 @@ fn put_packet(
 {
     let trb = trbs::packet_trb(pen.address, size, bursts, incoming, more);
     let p = pen.at;
-    let q = put::put(ring, finished, shape, false, p, trb);
+    let q = put::put_trb(ring, finished, shape, false, p, trb);
     Pen {
         at: q,
         address: std::num::wrapping_add_u64(pen.address, size),

@@ -21,10 +21,10 @@ fn put_stages(
     ensures { λ r. ⌜ (r, now (ring .exit), now (finished .exit)) ≡ stagesPut shape chain v (p, now (ring .entry), now (finished .entry)) ⌝ }
 {
     if v.length == 0 {
-        return put::put(ring, finished, shape, chain, p, trbs::status_trb(v));
+        return put::put_trb(ring, finished, shape, chain, p, trbs::status_trb(v));
     }
-    let q = put::put(ring, finished, shape, chain, p, trbs::data_trb(v));
-    put::put(ring, finished, shape, chain, q, trbs::status_trb(v))
+    let q = put::put_trb(ring, finished, shape, chain, p, trbs::data_trb(v));
+    put::put_trb(ring, finished, shape, chain, q, trbs::status_trb(v))
 }
 
 // "A control TD stores its setup with the opposite cycle, the rest as usual, then the setup again with the right one."

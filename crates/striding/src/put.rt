@@ -20,7 +20,7 @@ fn link_on(ring: &mut [u32], shape: Shape, chain: bool, p: Position) -> Position
 }
 
 // A TRB with the current cycle.
-pub fn put(
+pub fn put_trb(
     ring: &mut [u32],
     finished: &mut [u32],
     shape: Shape,

@@ -1,6 +1,6 @@
+-- `counted` meets its contract. Assumes nothing.
 use Rattle.packets.specs.Packets.{packetAt}
 use Rattle.packets.specs.declared.Packet.{Packet}
--- `counted` meets its contract. Assumes nothing.
 use Prim.Native.Nat.{_*_, _+_}
 use mathlib.Core.Path.{ap}
 use native.Mathlib.Omega.{arith}

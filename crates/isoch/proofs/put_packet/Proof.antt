@@ -9,8 +9,8 @@ returns : tie.Need-returns
 returns c =
     let a = c .before .before .before .before .before .before .before .before .before .before .before .before .before .args in (
       packet-is (a .shape) (a .s) (a .incoming) (a .size) (a .more) (a .pen) (now (a .ring)) (now (a .finished))
-          (c .before .before .before .before .before .before .before .before .before .before .before .before .before .pre .4) (c .before .before .before .before .before .before .before .before .before .before .packet-trb .ensures) (c .before .before .before .before .before .before .put .ensures .0) (c .before .wrapping-add-u64 .ensures) (c .frame-after .ensures),
-      c .before .before .before .before .before .before .put .ensures .1,
+          (c .before .before .before .before .before .before .before .before .before .before .before .before .before .pre .4) (c .before .before .before .before .before .before .before .before .before .before .packet-trb .ensures) (c .before .before .before .before .before .before .put-trb .ensures .0) (c .before .wrapping-add-u64 .ensures) (c .frame-after .ensures),
+      c .before .before .before .before .before .before .put-trb .ensures .1,
     )
 
 pub put-packet-spec : {M : Type 1} → statement M

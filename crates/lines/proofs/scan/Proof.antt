@@ -1,5 +1,5 @@
-use Rattle.lines.proofs.ScanLaws.{scan-ends, scan-goes}
 -- `scan` meets its contract. The loop's invariant: what is left to scan, from the line as it stands, is what was to be scanned. Assumes nothing.
+use Rattle.lines.proofs.ScanLaws.{scan-ends, scan-goes}
 use Prim.Native.Nat.{ℕ, _+_, _-_}
 use mathlib.Core.Bool.{true}
 use mathlib.Core.List.{List}

@@ -14,7 +14,7 @@ returns c =
 returns-2 : tie.Need-returns-2
 returns-2 c =
     let a = c .before .before .before .before .before .before .before .before .before .before .before .before .before .before .before .args in
-    c .before .before .before .before .put .ensures .0 ∙ plain-other (a .e) (a .v) (now (a .ring)) (now (a .finished)) (c .before .before .before .before .before .before .before .before .before .before .is-chained .ensures) (sym (c .before .before .before .before .before .before .before .before .before .is-deferred .ensures) ∙ c .before .before .before .before .before .before .before .before .if1 .left) (c .before .before .before .before .before .normal-trb .ensures)
+    c .before .before .before .before .put-trb .ensures .0 ∙ plain-other (a .e) (a .v) (now (a .ring)) (now (a .finished)) (c .before .before .before .before .before .before .before .before .before .before .is-chained .ensures) (sym (c .before .before .before .before .before .before .before .before .before .is-deferred .ensures) ∙ c .before .before .before .before .before .before .before .before .if1 .left) (c .before .before .before .before .before .normal-trb .ensures)
 
 pub put-plain-spec : {M : Type 1} → statement M
 put-plain-spec =

@@ -8,13 +8,13 @@ use Rattle.striding.proofs.deferred.put_stages.Tie as tie
 returns : tie.Need-returns
 returns c =
     let a = c .before .before .before .before .before .before .before .before .before .before .before .before .args in
-    stages-none (a .shape) (a .chain) (a .p) (a .v) (now (a .ring)) (now (a .finished)) (c .before .before .before .before .before .before .before .before .if1 .taken) (c .before .before .before .before .before .status-trb .ensures) (c .before .before .before .before .put .ensures .0)
+    stages-none (a .shape) (a .chain) (a .p) (a .v) (now (a .ring)) (now (a .finished)) (c .before .before .before .before .before .before .before .before .if1 .taken) (c .before .before .before .before .before .status-trb .ensures) (c .before .before .before .before .put-trb .ensures .0)
 
 returns-2 : tie.Need-returns-2
 returns-2 c =
     let a = c .before .before .before .before .before .before .before .before .before .before .before .before .before .before .before .before .before .before .before .before .args in
-    stages-some (a .shape) (a .chain) (a .p) (a .v) (now (a .ring)) (now (a .finished)) (c .before .before .before .before .before .before .before .before .before .before .before .before .before .before .before .before .if1 .left) (c .before .before .before .before .before .before .before .before .before .before .before .before .before .data-trb .ensures) (c .before .before .before .before .before .before .before .before .before .before .before .before .put2 .ensures .0)
-    (c .before .before .before .before .before .status-trb2 .ensures) (c .before .before .before .before .put3 .ensures .0)
+    stages-some (a .shape) (a .chain) (a .p) (a .v) (now (a .ring)) (now (a .finished)) (c .before .before .before .before .before .before .before .before .before .before .before .before .before .before .before .before .if1 .left) (c .before .before .before .before .before .before .before .before .before .before .before .before .before .data-trb .ensures) (c .before .before .before .before .before .before .before .before .before .before .before .before .put-trb2 .ensures .0)
+    (c .before .before .before .before .before .status-trb2 .ensures) (c .before .before .before .before .put-trb3 .ensures .0)
 
 pub put-stages-spec : {M : Type 1} → statement M
 put-stages-spec =

@@ -1,7 +1,7 @@
+-- `put_deferred` meets its contract: the place cleared, the TRB stored, the link where it is due. Assumes nothing.
 use mathlib.Core.Bool.{not}
 use denote.Ref.{now}
 use Rattle.striding.proofs.PutLaws.{put-is}
--- `put_deferred` meets its contract: the place cleared, the TRB stored, the link where it is due. Assumes nothing.
 use native.Mathlib.Omega.{arith}
 use mathlib.Core.Path.{ap}
 use mathlib.Core.List.{List}

@@ -1,14 +1,14 @@
+-- `put_trb` meets its contract: the place cleared, the TRB stored, the link where it is due. Assumes nothing.
 use denote.Ref.{now}
 use Rattle.striding.proofs.PutLaws.{put-is}
--- `put` meets its contract: the place cleared, the TRB stored, the link where it is due. Assumes nothing.
 use native.Mathlib.Omega.{arith}
 use mathlib.Core.Path.{ap}
 use mathlib.Core.List.{List}
 use Prim.Native.Nat.{ℕ}
 use Rattle.ring.specs.declared.Position.{Position}
 use borrow.Author.Needs.{needs}
-use Rattle.striding.proofs.put.put.Statement.{statement}
-use Rattle.striding.proofs.put.put.Tie as tie
+use Rattle.striding.proofs.put.put_trb.Statement.{statement}
+use Rattle.striding.proofs.put.put_trb.Tie as tie
 
 link-on-requires : tie.Need-link-on-requires
 link-on-requires c κs =
@@ -19,8 +19,8 @@ returns c =
     let a = c .before .before .before .before .before .before .before .before .before .before .before .before .before .before .args in
     (put-is (a .shape) (a .chain) (a .p) (a .trb) (a .p .cycle) (now (a .ring)) (now (a .finished)) (c .before .before .before .before .before .before .before .before .before .before .clear-finished .ensures) (c .before .before .before .before .before .before .enque-transfer .ensures) (c .before .before .link-on .ensures .0), c .before .before .link-on .ensures .1)
 
-pub put-spec : {M : Type 1} → statement M
-put-spec =
+pub put-trb-spec : {M : Type 1} → statement M
+put-trb-spec =
     tie.close
     (tie.spec
     (λ c κs. search needs)
