@@ -52,12 +52,10 @@ admitted e records packets request lengths t =
     let ts = startTests e records packets request lengths in
     let sizes = and-eq-true-iff (fitsWith e records) (eqb packets packetsSize) .0 (not-false _ (quiet ts 0 refl t (omega arith))) in
     let whole = fit-with e records (sizes .0) in
-    let sound = fit e (whole .fit) in
-    record {
-      table = whole .size;
-      words = eqb-true _ _ (sizes .1);
-      next = sound .next;
-      room =
-          room (e .shape .slots) (e .account .outstanding) (required request (length lengths)) (sound .limits .slots-most) (quiet ts 3 refl t (omega arith));
-      few = few (request .what) (request .length) lengths (quiet ts 4 refl t (omega arith));
-    }
+    let sound = fit e (whole .fit) in (
+      whole .size,
+      eqb-true _ _ (sizes .1),
+      sound .next,
+      room (e .shape .slots) (e .account .outstanding) (required request (length lengths)) (sound .limits .slots-most) (quiet ts 3 refl t (omega arith)),
+      few (request .what) (request .length) lengths (quiet ts 4 refl t (omega arith)),
+    )

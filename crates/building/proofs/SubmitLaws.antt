@@ -104,16 +104,17 @@ module _ (e : Endpoint) (ring finished records packets : List ℕ) (request : Re
     unfolding startedEndpoint
     now-sendable =
         let s = start-admitted e records packets request lengths passed in
-        let limits = s .fits .endpoint .limits in
-        record {
-          slots = ring-size;
-          places = finished-size;
-          words = s .packets-size;
-          least = limits .slots-least;
-          most = limits .slots-most;
-          here = place-low e ring finished records packets request lengths passed ring-size finished-size;
-          number = record-below e records packets request lengths passed;
-        }
+        let limits = s .fits .endpoint .limits in (
+          record {
+            least = limits .slots-least;
+            most = limits .slots-most;
+            table = finished-size;
+            place = place-low e ring finished records packets request lengths passed ring-size finished-size;
+            held = record-below e records packets request lengths passed;
+          },
+          ring-size,
+          s .packets-size,
+        )
 
     module _ {b : Begun} {records₁ : List ℕ} (taken : _≡_ {A = Begun × List ℕ} (b, records₁) (takenWith e records request (length lengths))) where
       begun-is : b .endpoint ≡ begunNow

@@ -214,6 +214,6 @@ pub fn turn(p: Packet, finished: &[u32], s: Standing) -> Turned
 
 // The packets of a record by value, and how the walk ended.
 pub struct Marked {
-    pub packets: [Packet; PACKETS],
+    pub packets: [Packet; PACKET_COUNT],
     pub standing: Standing,
 }

@@ -4,6 +4,7 @@ mod input;
 
 ghost use Prim.Native.Nat.{_≤_};
 ghost use lib.ListN.{length};
+ghost use Rattle.sizes.specs.Sizes.{mostSlots, ringSize};
 use crate::input::Input;
 use bench::tools;
 use console::serve;
@@ -19,7 +20,7 @@ use values::value;
 
 // What a program lends: the words of a ring of 4,096 slots and of its finished table, records and packets, the bytes read, the numbers of a line, and a
 // page with room for the longest answer.
-pub const WORDS: usize = 16384;
+pub const WORDS: usize = sizes::TRB_WORDS * sizes::MOST_SLOTS;
 
 pub const RECORDS: usize = sizes::RECORDS_SIZE;
 
@@ -47,12 +48,12 @@ pub struct Left {
 
 // The words of a table of so many slots; of more than 4,096 there is none.
 fn size_of(slots: usize) -> usize
-    ensures { λ r. ⌜ r ≤ 16384 ⌝ }
+    ensures { λ r. ⌜ r ≤ ringSize mostSlots ⌝ }
 {
-    if 4096 < slots {
+    if sizes::MOST_SLOTS < slots {
         return 0;
     }
-    4 * slots
+    sizes::TRB_WORDS * slots
 }
 
 // A ring is made in the parts of the tables that have its size.

@@ -140,7 +140,7 @@ fn is_misplaced(slots: usize, v: Record) -> bool
     if v.kind != ISOCH {
         return false;
     }
-    (PACKETS as u64) < v.count
+    (PACKET_COUNT as u64) < v.count
 }
 
 fn is_bad(e: Endpoint, records: &[u64], id: u64) -> bool

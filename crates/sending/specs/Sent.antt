@@ -1,5 +1,5 @@
 -- A whole submission by its kind, with the packet lengths read as they were given.
-use Prim.Native.Nat.{ℕ, _+_, _*_, _<_, _≤_}
+use Prim.Native.Nat.{ℕ, _*_}
 use mathlib.Core.List.{List}
 use mathlib.Core.Path.{_≡_}
 use lib.Dec.{eqb}
@@ -7,7 +7,7 @@ use lib.ListN.{length}
 use lib.Seq.{paste}
 use Rattle.base.specs.First.{pick}
 use Rattle.ring.specs.declared.Position.{Position}
-use Rattle.sizes.specs.Sizes.{fewestSlots, mostSlots, ringSize, recordCount, packetCount, packetsSize, isoch}
+use Rattle.sizes.specs.Sizes.{ringSize, packetCount, packetsSize, isoch}
 use Rattle.records.specs.declared.Record.{Record}
 use Rattle.dock.specs.declared.Endpoint.{Endpoint}
 use Rattle.dock.specs.declared.StoredAll.{StoredAll}
@@ -15,6 +15,7 @@ use Rattle.dock.specs.declared.Submitted.the-variants.{Done}
 use Rattle.dock.specs.Start.{atLeastOne}
 use Rattle.dock.specs.State.{idle, withStore}
 use Rattle.dock.specs.Trbs.{normalTrb, deferred, chained}
+use Rattle.checks.specs.Shown.{Shown}
 use Rattle.isoch.specs.declared.Pen.{Pen}
 use Rattle.striding.specs.Deferred.{putSame, deferredPut}
 use Rattle.isoch.specs.Packed.{allPut}
@@ -42,12 +43,8 @@ sentBy e v ring finished packets lengths =
     pick (eqb (v .kind) isoch) (sentIsoch e v ring finished packets (atLeastOne lengths))
     (ended e (v .id) (s .0) (e .periodic .frame), s .1, s .2, packets)
 
--- What a whole submission needs of its tests, as facts on numbers.
-pub record Sendable (e : Endpoint) (ring finished packets : ℕ) : Type 0 where
-  pub slots : ring ≡ ringSize (e .shape .slots)
-  pub places : finished ≡ ringSize (e .shape .slots)
-  pub words : packets ≡ packetsSize
-  pub least : fewestSlots ≤ e .shape .slots
-  pub most : e .shape .slots ≤ mostSlots
-  pub here : e .at .place + 1 < e .shape .slots
-  pub number : e .work .number < recordCount
+-- What a whole submission needs of its tests: what they have shown of the finished table, the producer's place and the record, and the sizes of the other
+-- tables.
+abbrev pub Sendable : Endpoint → ℕ → ℕ → ℕ → Type 0
+Sendable e ring finished packets =
+    Shown (e .shape .slots) finished (e .at .place) (e .work .number) × (ring ≡ ringSize (e .shape .slots)) × (packets ≡ packetsSize)

@@ -40,17 +40,20 @@ ready e ring finished records packets t =
     let whole = fit-with e records (two .0) in
     let sound = fit e (whole .fit) in
     let way = on-course e records (whole .kept) busy in
-    record {
-      slots = eqb-true _ _ (two .1);
-      places = eqb-true _ _ (three .1);
-      table = whole .size;
-      words = eqb-true _ _ (all .1);
-      most = sound .limits .slots-most;
-      here = sound .places .here;
-      first = sound .places .first busy;
-      number = way .number;
-      stored = let s = way .counted in omega (arith, count-most (recordAt records (e .work .number)));
-    }
+    let limits = sound .limits in (
+      record {
+        least = limits .slots-least;
+        most = limits .slots-most;
+        table = eqb-true _ _ (three .1);
+        place = sound .places .first busy;
+        held = way .number;
+      },
+      eqb-true _ _ (two .1),
+      whole .size,
+      eqb-true _ _ (all .1),
+      sound .places .here,
+      let s = way .counted in omega (arith, count-most (recordAt records (e .work .number))),
+    )
 
 -- ---- what each store leaves
 

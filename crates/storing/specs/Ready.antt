@@ -1,16 +1,17 @@
--- What a store needs of its tests, as facts on numbers.
-use Prim.Native.Nat.{ℕ, _+_, _≤_, _<_}
+-- What a store needs of its tests.
+use Prim.Native.Nat.{ℕ, _+_, _≤_}
 use mathlib.Core.Path.{_≡_}
-use Rattle.sizes.specs.Sizes.{mostSlots, ringSize, recordCount, recordsSize, packetCount, packetsSize}
+use Rattle.sizes.specs.Sizes.{ringSize, recordsSize, packetCount, packetsSize}
 use Rattle.dock.specs.declared.Endpoint.{Endpoint}
+use Rattle.checks.specs.Shown.{Shown}
 
-pub record Ready (e : Endpoint) (ring finished records packets : ℕ) : Type 0 where
-  pub slots : ring ≡ ringSize (e .shape .slots)
-  pub places : finished ≡ ringSize (e .shape .slots)
-  pub table : records ≡ recordsSize
-  pub words : packets ≡ packetsSize
-  pub most : e .shape .slots ≤ mostSlots
-  pub here : e .at .place + 1 ≤ e .shape .slots
-  pub first : e .work .place + 1 < e .shape .slots
-  pub number : e .work .number < recordCount
-  pub stored : e .work .stored ≤ packetCount
+-- What they have shown of the finished table, the place of the first TRB and the record; the sizes of the other tables; the place of the next store, which may
+-- be the link's; and as many TRBs stored as a request has at most.
+abbrev pub Ready : Endpoint → ℕ → ℕ → ℕ → ℕ → Type 0
+Ready e ring finished records packets =
+    Shown (e .shape .slots) finished (e .work .place) (e .work .number)
+    × (ring ≡ ringSize (e .shape .slots))
+    × (records ≡ recordsSize)
+    × (packets ≡ packetsSize)
+    × (e .at .place + 1 ≤ e .shape .slots)
+    × (e .work .stored ≤ packetCount)

@@ -24,7 +24,7 @@ pub fn mark_packets(packets: &mut [Packet], finished: &[u32], b: Block) -> Stand
 }
 
 // The same over packets by value: they are lent from a local.
-pub fn marked_block(packets: [Packet; PACKETS], finished: &[u32], b: Block) -> Marked
+pub fn marked_block(packets: [Packet; PACKET_COUNT], finished: &[u32], b: Block) -> Marked
     ensures { λ r. ⌜ (r .packets ≡ walked packets (now (finished .entry)) b .packets) × (r .standing ≡ walked packets (now (finished .entry)) b .standing) ⌝ }
 {
     let mut held = packets;

@@ -30,7 +30,7 @@ pub enum Walk {
 }
 
 // The first packets of a record, out of their words.
-fn load(packets: &[u64], number: usize, count: usize) -> [Packet; PACKETS]
+fn load(packets: &[u64], number: usize, count: usize) -> [Packet; PACKET_COUNT]
     requires { ⌜ (length (now packets) ≡ recordCount * packetCount) × (number < recordCount) × (count ≤ packetCount) ⌝ }
     ensures { λ r. ⌜ r ≡ loaded count (now (packets .entry)) number ⌝ }
 {
@@ -39,7 +39,7 @@ fn load(packets: &[u64], number: usize, count: usize) -> [Packet; PACKETS]
         actual: 0,
         marked: false,
     };
-    let mut held = [none; PACKETS];
+    let mut held = [none; PACKET_COUNT];
     let mut i: usize = 0;
     while i < count {
         let p = packets::packet_at(packets, number, i);
@@ -63,7 +63,7 @@ fn keep(packets: &mut [u64], number: usize, k: usize, p: Packet)
     }
 }
 
-fn keep_all(packets: &mut [u64], number: usize, count: usize, held: [Packet; PACKETS])
+fn keep_all(packets: &mut [u64], number: usize, count: usize, held: [Packet; PACKET_COUNT])
     requires { ⌜ (length (now packets) ≡ recordCount * packetCount) × (number < recordCount) × (count ≤ packetCount) ⌝ }
     ensures { λ _. ⌜ now (packets .exit) ≡ keepBelow count (now (packets .entry)) number (λ j. getD held j nowhere) ⌝ }
 {

@@ -24,7 +24,7 @@ take-requires : tie.Need-take-requires
 take-requires c κs =
     let a = c .before .before .before .before .before .before .before .before .before .args in
     let t = takes (a .e) (now (a .ring)) (now (a .finished)) (now (a .records)) (now (a .packets)) (a .request) (now (a .lengths)) (none (c .before)) in
-    (t .table, t .next, t .room)
+    (t .0, t .2, t .3)
 
 send-requires : tie.Need-send-requires
 send-requires c κs =
