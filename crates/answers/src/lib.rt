@@ -1,6 +1,6 @@
 // The lines that answers are written as, each put on a page.
 ghost use mathlib.Core.Path.{_≡_};
-ghost use Prim.Native.Nat.{_<_, min};
+ghost use Prim.Native.Nat.{_≤_, _<_, min};
 ghost use Rattle.page.specs.Page.{putAll};
 ghost use Rattle.sizes.specs.Sizes.{packetCount};
 ghost use Rattle.phrases.specs.Text.{outcomeLine, cutLine, storedLines};
@@ -78,13 +78,13 @@ pub fn put_taken(out: &mut [u8], at: usize, answer: Taken) -> usize
 
 // What was counted for a packet.
 fn counted(packets: &[u64], number: usize, k: usize) -> u64
-    requires { ⌜ k < 64 ⌝ }
+    requires { ⌜ k < packetCount ⌝ }
     ensures { λ r. ⌜ r ≡ countedAt (now (packets .entry)) number k ⌝ }
 {
-    if 64 <= number {
+    if sizes::RECORD_COUNT <= number {
         return 0;
     }
-    let at = 64 * number + k;
+    let at = sizes::PACKET_COUNT * number + k;
     if packets.len() <= at {
         return 0;
     }
@@ -93,7 +93,7 @@ fn counted(packets: &[u64], number: usize, k: usize) -> u64
 
 // The lengths of a request's packets, one behind the other.
 fn put_lengths(out: &mut [u8], at: usize, packets: &[u64], number: usize, count: usize) -> usize
-    requires { ⌜ count < 65 ⌝ }
+    requires { ⌜ count ≤ packetCount ⌝ }
     ensures { λ r. ⌜ (r, now (out .exit)) ≡ putAll (at, now (out .entry)) (lengthsText count (now (packets .entry)) number 0) ⌝ }
 {
     let mut end = at;
@@ -106,21 +106,21 @@ fn put_lengths(out: &mut [u8], at: usize, packets: &[u64], number: usize, count:
     end
 }
 
-// At most 64.
-fn at_most_64(n: usize) -> usize
-    ensures { λ r. ⌜ (r ≡ min packetCount n) × (r < 65) ⌝ }
+// As many as a record has.
+fn at_most(n: usize) -> usize
+    ensures { λ r. ⌜ (r ≡ min packetCount n) × (r ≤ packetCount) ⌝ }
 {
-    if n < 64 {
+    if n < sizes::PACKET_COUNT {
         return n;
     }
-    64
+    sizes::PACKET_COUNT
 }
 
 // The lengths and the line's end.
 fn put_done(out: &mut [u8], at: usize, packets: &[u64], c: Completion) -> usize
     ensures { λ r. ⌜ (r, now (out .exit)) ≡ putAll (at, now (out .entry)) (doneLine (now (packets .entry)) c) ⌝ }
 {
-    let count = at_most_64(c.packets);
+    let count = at_most(c.packets);
     let a = page::put_text(out, at, b"done");
     let b = page::put_decimal(out, a, c.id);
     let d = page::put_decimal(out, b, c.length);

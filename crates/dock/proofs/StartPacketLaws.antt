@@ -33,12 +33,12 @@ some-packets [] h = omega arith
 some-packets (n ∷ ns) h = h
 
 module _ (incoming : Bool) (size : ℕ) (lengths : List ℕ) (short : tooLong (Isoch incoming) size lengths ≡ false) where
-  pub few-packets : length lengths ≤ 64
+  pub few-packets : length lengths ≤ packetCount
   few-packets =
       ⊎-elim
       (λ (h : packetCount < length lengths). absurd (by-too-long-isoch incoming size lengths .not-so short (inl (inl h))))
-      (λ (h : length lengths ≤ 64). h)
-      (lt-or-le 64 (length lengths))
+      (λ (h : length lengths ≤ packetCount). h)
+      (lt-or-le packetCount (length lengths))
 
   pub packet-short : (k : ℕ) → k < length lengths → getD lengths k 0 ≤ longest
   packet-short k l =

@@ -44,8 +44,8 @@ abbrev pub statusTrb : Record → Trb
 statusTrb v = Status true (not (v .incoming && ltb 0 (v .length)))
 
 -- Normal: "address, length, w3 bits 2 and 5".
-abbrev pub normalTrb : Record → Trb
-normalTrb v = Normal (v .address) (field17 (v .length)) 0 0 true false true
+abbrev pub normalTrb : Endpoint → Record → Trb
+normalTrb e v = Normal (v .address) (field17 (v .length)) 0 0 true false true
 
 -- Isoch: "bit 2 when in, bit 5, bit 9 on all but the last packet, last-burst count at bit 16, bit 31. With bit 31 on the frame id is 0".
 -- The TRB of a packet of so many bytes at an address, by its burst counts; `more` says that it is not the last.
@@ -67,7 +67,7 @@ unfoldable pub trbOf : Endpoint → Record → List ℕ → ℕ → Trb
 trbOf e v packets k =
     pick (eqb (v .kind) control)
     (pick (eqb k 0) (setupTrb v) (pick (eqb k 1 && ltb 0 (v .length)) (dataTrb v) (statusTrb v)))
-    (pick (eqb (v .kind) isoch) (isochTrb e v k (packetSize e packets k)) (normalTrb v))
+    (pick (eqb (v .kind) isoch) (isochTrb e v k (packetSize e packets k)) (normalTrb e v))
 
 -- ---- a TD by name
 

@@ -17,22 +17,23 @@ use Rattle.dock.specs.Submit.{submit}
 use Rattle.loaded.specs.State.{Narrow, load}
 use Rattle.told.specs.Request.{isRequest, requestOf}
 use Rattle.saved.specs.Settle.{numbered, told}
+use Rattle.dock.specs.declared.Identity.{Identity}
+use Rattle.dock.specs.declared.Shape.{Shape}
 use Rattle.saved.proofs.LeavesLaws.{make-moves, configure-leaves, start-leaves, store-leaves, submit-leaves, reclaim-leaves, retire-leaves, begin-leaves, end-leaves}
 use Rattle.loaded.proofs.SavedLaws.{kept-says}
-use Rattle.dock_c.specs.Exported.{isState, areWords, shapeFrom, identityFrom, made, configured, started, storedOne, submitted, reclaimed, retired, resetBegun, resetEnded}
+use Rattle.dock_c.specs.Exported.{isState, areWords, made, configured, started, storedOne, submitted, reclaimed, retired, resetBegun, resetEnded}
 
 -- ---- calls that tell their number only
 
 module _ (state : List ℕ) (fit : isState state ≡ true) where
   -- A making that is refused leaves the words, whatever they say; else they say the fresh endpoint.
-  pub make-says : (ring finished records packets : List ℕ) (slots base mask slot dci : ℕ)
-      → makeNo (length ring) (length finished) (length records) (length packets) (shapeFrom slots base) (identityFrom mask slot dci) ≡ 0
-      → Narrow (make ring finished records packets (shapeFrom slots base) (identityFrom mask slot dci) .0 .endpoint)
-      → load (made state ring finished records packets slots base mask slot dci .1)
-      ≡ make ring finished records packets (shapeFrom slots base) (identityFrom mask slot dci) .0 .endpoint
+  pub make-says : (ring finished records packets : List ℕ) (shape : Shape) (who : Identity)
+      → makeNo (length ring) (length finished) (length records) (length packets) shape who ≡ 0
+      → Narrow (make ring finished records packets shape who .0 .endpoint)
+      → load (made state ring finished records packets shape who .1) ≡ make ring finished records packets shape who .0 .endpoint
   unfolding made numbered
-  make-says ring finished records packets slots base mask slot dci z n =
-      rw fit (kept-says _ state _ n (λ m. absurd (make-moves ring finished records packets (shapeFrom slots base) (identityFrom mask slot dci) z m)))
+  make-says ring finished records packets shape who z n =
+      rw fit (kept-says _ state _ n (λ m. absurd (make-moves ring finished records packets shape who z m)))
 
   pub configure-says : (packet burst interval : ℕ) → Narrow (configure (load state) packet burst interval .endpoint)
       → load (configured state packet burst interval .1) ≡ configure (load state) packet burst interval .endpoint

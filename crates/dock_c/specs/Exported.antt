@@ -43,10 +43,10 @@ shapeFrom slots base = record { slots = slots; base = base }
 abbrev pub identityFrom : ℕ → ℕ → ℕ → Identity
 identityFrom mask slot dci = record { slot = slot; dci = dci; mask = mask }
 
-unfoldable pub made : List ℕ → List ℕ → List ℕ → List ℕ → List ℕ → ℕ → ℕ → ℕ → ℕ → ℕ
+unfoldable pub made : List ℕ → List ℕ → List ℕ → List ℕ → List ℕ → Shape → Identity
     → ℕ × List ℕ × List ℕ × List ℕ × List ℕ × List ℕ
-made state ring finished records packets slots base mask slot dci =
-    let m = make ring finished records packets (shapeFrom slots base) (identityFrom mask slot dci) in
+made state ring finished records packets shape who =
+    let m = make ring finished records packets shape who in
     let n = numbered state (m .0) in
     pick (isState state) (n .0, n .1, m .1, m .2, m .3, m .4) (1, state, ring, finished, records, packets)
 

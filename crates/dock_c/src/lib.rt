@@ -7,7 +7,7 @@
 //
 // Each function loads the endpoint, makes the call of its name, saves the endpoint and tells the answer; specs/Exported.antt says so, once each.
 ghost use mathlib.Core.Path.{_≡_};
-ghost use Rattle.dock_c.specs.Exported.{made, configured, started, storedOne, submitted, handedOver, reclaimed, cancelled, retired, resetBegun, resetEnded, stopped, resumed, pointed};
+ghost use Rattle.dock_c.specs.Exported.{shapeFrom, identityFrom, made, configured, started, storedOne, submitted, handedOver, reclaimed, cancelled, retired, resetBegun, resetEnded, stopped, resumed, pointed};
 use dock::Identity;
 use dock::Shape;
 use loaded::STATE_WORDS;
@@ -36,7 +36,7 @@ pub extern "C" fn thn_make(
     slot: u8,
     dci: u8,
 ) -> u32
-    ensures { λ r. ⌜ (r, now (state .exit), now (ring .exit), now (finished .exit), now (records .exit), now (packets .exit)) ≡ made (now (state .entry)) (now (ring .entry)) (now (finished .entry)) (now (records .entry)) (now (packets .entry)) slots base mask slot dci ⌝ }
+    ensures { λ r. ⌜ (r, now (state .exit), now (ring .exit), now (finished .exit), now (records .exit), now (packets .exit)) ≡ made (now (state .entry)) (now (ring .entry)) (now (finished .entry)) (now (records .entry)) (now (packets .entry)) (shapeFrom slots base) (identityFrom mask slot dci) ⌝ }
 {
     if state.len() != STATE_WORDS {
         return 1;

@@ -5,7 +5,7 @@ use lib.Dec.{ltb}
 use Rattle.base.specs.First.{pick}
 use Rattle.trb.specs.Layouts.{wordsAt}
 use Rattle.trb.specs.declared.Words.{Words}
-use Rattle.sizes.specs.Sizes.{packetCount}
+use Rattle.sizes.specs.Sizes.{recordCount, packetCount}
 use Rattle.packets.specs.Packets.{packetAt}
 use Rattle.page.specs.Page.{decimalField, hexField, flagField, newline}
 use Rattle.controller.specs.declared.Consumer.{Consumer}
@@ -116,7 +116,7 @@ takenLine (taken.Refused number) = noLine number
 
 -- What was counted for packet k of a record; a record that is none has no packets.
 unfoldable pub countedAt : List ℕ → ℕ → ℕ → ℕ
-countedAt packets number k = pick (ltb number 64) (packetAt packets number k .actual) 0
+countedAt packets number k = pick (ltb number recordCount) (packetAt packets number k .actual) 0
 
 -- The lengths of so many packets, from packet k on.
 unfoldable pub lengthsText : ℕ → List ℕ → ℕ → ℕ → List ℕ

@@ -29,7 +29,7 @@ module _ (e : Endpoint) (v : Record) (ring finished : List ℕ) where
   unfolding plainPut
   plain-deferred link late = rw (link, late)
 
-  pub plain-other : {chain : Bool} {trb : Trb} → chain ≡ chained e v → deferred v ≡ false → trb ≡ normalTrb v
+  pub plain-other : {chain : Bool} {trb : Trb} → chain ≡ chained e v → deferred v ≡ false → trb ≡ normalTrb e v
       → putTrb (e .shape) chain (e .at) trb (e .at .cycle) ring finished ≡ plainPut e v ring finished
   unfolding plainPut
   plain-other link early is = rw (link, early, is)

@@ -35,7 +35,7 @@ sentIsoch e v ring finished packets sizes =
 
 unfoldable pub plainPut : Endpoint → Record → List ℕ → List ℕ → Position × List ℕ × List ℕ
 plainPut e v ring finished =
-    pick (deferred v) (deferredPut (e .shape) (chained e v) (e .at) v ring finished) (putSame (e .shape) (chained e v) (e .at) (normalTrb v) ring finished)
+    pick (deferred v) (deferredPut (e .shape) (chained e v) (e .at) v ring finished) (putSame (e .shape) (chained e v) (e .at) (normalTrb e v) ring finished)
 
 unfoldable pub sentBy : Endpoint → Record → List ℕ → List ℕ → List ℕ → List ℕ → StoredAll × List ℕ × List ℕ × List ℕ
 sentBy e v ring finished packets lengths =

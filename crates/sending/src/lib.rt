@@ -81,7 +81,7 @@ fn put_plain(ring: &mut [u32], finished: &mut [u32], e: Endpoint, v: Record) -> 
     if checks::is_deferred(v) {
         return deferred::put_deferred_td(ring, finished, shape, chain, p, v);
     }
-    put::put_trb(ring, finished, shape, chain, p, trbs::normal_trb(v))
+    put::put_trb(ring, finished, shape, chain, p, trbs::normal_trb(e, v))
 }
 
 pub fn send(

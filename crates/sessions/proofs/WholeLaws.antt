@@ -19,7 +19,7 @@ use Rattle.dock.specs.declared.Stored.the-variants as stored
 use Rattle.dock.specs.declared.StoredAll.{StoredAll}
 use Rattle.dock.specs.declared.StoredOne.{StoredOne}
 use Rattle.dock.specs.declared.Submitted.the-variants as submitted
-use Rattle.sizes.specs.Sizes.{ringSize}
+use Rattle.sizes.specs.Sizes.{ringSize, packetCount}
 use Rattle.dock.specs.Requests.{countFor}
 use Rattle.dock.specs.Start.{someOver, sumOf, tooLong, startNo, startedEndpoint, startedRecords, writePackets, recordTaken, idTaken}
 use Rattle.dock.specs.State.{idle}
@@ -73,18 +73,18 @@ either-false : (a b : Bool) → (a || b) ≡ false → (a ≡ false) × (b ≡ f
 either-false true b e = absurd (false≢true (sym e))
 either-false false b e = (refl, e)
 
-two-or-three : (b : Bool) → pick b 2 3 ≤ 64
+two-or-three : (b : Bool) → pick b 2 3 ≤ packetCount
 two-or-three true = omega arith
 two-or-three false = omega arith
 
-few : (what : What) (size : ℕ) (lengths : List ℕ) → tooLong what size lengths ≡ false → countFor what size (length lengths) ≤ 64
+few : (what : What) (size : ℕ) (lengths : List ℕ) → tooLong what size lengths ≡ false → countFor what size (length lengths) ≤ packetCount
 unfolding tooLong
 few (Control type request value index) size lengths t = two-or-three (eqb size 0)
 few (Bulk incoming) size lengths t = omega arith
 few (Interrupt incoming) size lengths t = omega arith
 few (Isoch incoming) size lengths t =
-    let first = either-false (ltb 64 (length lengths) || someOver lengths) (ltb size (sumOf lengths)) t .0 in
-    omega (arith, ltb-false 64 (length lengths) (either-false (ltb 64 (length lengths)) (someOver lengths) first .0))
+    let first = either-false (ltb packetCount (length lengths) || someOver lengths) (ltb size (sumOf lengths)) t .0 in
+    omega (arith, ltb-false packetCount (length lengths) (either-false (ltb packetCount (length lengths)) (someOver lengths) first .0))
 
 -- ---- the line
 

@@ -19,4 +19,4 @@ controlTrb v k = pick (eqb k 0) (setupTrb v) (pick (eqb k 1 && ltb 0 (v .length)
 
 -- TRB k of a record's request, whose packet k asks for so many bytes.
 unfoldable pub trbWith : Endpoint → Record → ℕ → ℕ → Trb
-trbWith e v size k = pick (eqb (v .kind) control) (controlTrb v k) (pick (eqb (v .kind) isoch) (isochTrb e v k size) (normalTrb v))
+trbWith e v size k = pick (eqb (v .kind) control) (controlTrb v k) (pick (eqb (v .kind) isoch) (isochTrb e v k size) (normalTrb e v))

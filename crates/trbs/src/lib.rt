@@ -80,8 +80,8 @@ pub fn status_trb(v: Record) -> Trb
 }
 
 // Normal: "address, length, w3 bits 2 and 5".
-pub fn normal_trb(v: Record) -> Trb
-    ensures { λ r. ⌜ r ≡ normalTrb v ⌝ }
+pub fn normal_trb(e: Endpoint, v: Record) -> Trb
+    ensures { λ r. ⌜ r ≡ normalTrb e v ⌝ }
 {
     Trb::Normal {
         address: v.address,
@@ -150,5 +150,5 @@ pub fn trb_of(e: Endpoint, v: Record, size: u32, k: usize) -> Trb
     if v.kind == sizes::ISOCH {
         return isoch_trb(e, v, size, k);
     }
-    normal_trb(v)
+    normal_trb(e, v)
 }

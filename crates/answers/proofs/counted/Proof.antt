@@ -1,4 +1,5 @@
 -- `counted` meets its contract. Assumes nothing.
+use Rattle.sizes.specs.Sizes.{packetCount}
 use Rattle.packets.specs.Packets.{packetAt}
 use Rattle.packets.specs.declared.Packet.{Packet}
 use Prim.Native.Nat.{_*_, _+_}
@@ -20,7 +21,7 @@ returns-2 : tie.Need-returns-2
 unfolding countedAt packetAt
 returns-2 c =
     let a = c .before .before .before .args in
-    rw (lt-ltb _ _ (c .before .if1 .left), read-past (now (a .packets)) (64 * a .number + a .k) (omega arith))
+    rw (lt-ltb _ _ (c .before .if1 .left), read-past (now (a .packets)) (packetCount * a .number + a .k) (omega arith))
 
 returns-3 : tie.Need-returns-3
 unfolding countedAt packetAt

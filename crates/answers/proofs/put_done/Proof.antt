@@ -7,7 +7,7 @@ use Rattle.answers.proofs.put_done.Tie as tie
 
 returns : tie.Need-returns
 unfolding doneLine
-returns c = rw (← c .before .before .before .before .before .before .before .before .before .before .before .before .before .before .before .before .before .before .before .before .before .before .before .before .before .at-most-64 .ensures .0) (then _ _ _ (c .before .before .before .before .before .before .before .before .before .before .before .before .before .before .before .before .before .before .before .before .before .before .put-text .ensures) (then _ _ _ (c .before .before .before .before .before .before .before .before .before .before .before .before .before .before .before .before .before .before .put-decimal .ensures) (then _ _ _ (c .before .before .before .before .before .before .before .before .before .before .before .before .before .before .put-decimal2 .ensures) (then _ _ _ (c .before .before .before .before .before .before .before .before .before .before .put-flag .ensures) (then _ _ _ (c .before .before .before .before .before .before .put-lengths .ensures) (c .before .before .put-end .ensures))))))
+returns c = rw (← c .before .before .before .before .before .before .before .before .before .before .before .before .before .before .before .before .before .before .before .before .before .before .before .before .before .at-most .ensures .0) (then _ _ _ (c .before .before .before .before .before .before .before .before .before .before .before .before .before .before .before .before .before .before .before .before .before .before .put-text .ensures) (then _ _ _ (c .before .before .before .before .before .before .before .before .before .before .before .before .before .before .before .before .before .before .put-decimal .ensures) (then _ _ _ (c .before .before .before .before .before .before .before .before .before .before .before .before .before .before .put-decimal2 .ensures) (then _ _ _ (c .before .before .before .before .before .before .before .before .before .before .put-flag .ensures) (then _ _ _ (c .before .before .before .before .before .before .put-lengths .ensures) (c .before .before .put-end .ensures))))))
 
 pub put-done-spec : {M : Type 1} → statement M
 put-done-spec =

@@ -3,6 +3,7 @@ use native.Mathlib.Omega.{arith}
 use denote.Ref.{now}
 use lib.ListN.{length}
 use Prim.Native.Nat.{_*_, _<_}
+use Rattle.sizes.specs.Sizes.{packetCount}
 use Rattle.requests.proofs.LengthLaws.{none-given, some-given, one-stored}
 use borrow.Author.Needs.{needs}
 use Rattle.starting.proofs.write_lengths.Statement.{statement}
@@ -11,8 +12,8 @@ use Rattle.starting.proofs.write_lengths.Tie as tie
 returns : tie.Need-returns
 returns c =
     let a = c .before .before .before .args in
-    let room : 64 * a .number < length (now (a .packets)) = omega arith in
-    simp (none-given (now (a .lengths)) (c .if1 .taken)) (one-stored (now (a .packets)) (64 * a .number) room)
+    let room : packetCount * a .number < length (now (a .packets)) = omega arith in
+    simp (none-given (now (a .lengths)) (c .if1 .taken)) (one-stored (now (a .packets)) (packetCount * a .number) room)
 
 returns-2 : tie.Need-returns-2
 returns-2 c = simp (some-given (now (c .before .before .before .before .before .before .before .args .lengths)) (c .before .before .before .before .if1 .left), c .before .before .copy-lengths .ensures)

@@ -3,13 +3,14 @@ use Prim.Native.Nat.{_≤_}
 use native.Mathlib.Omega.{arith}
 use denote.Ref.{now}
 use lib.ListN.{length}
+use Rattle.sizes.specs.Sizes.{packetCount}
 use Rattle.dock.specs.Start.{writePackets}
 use borrow.Author.Needs.{needs}
 use Rattle.starting.proofs.write_packets.Statement.{statement}
 use Rattle.starting.proofs.write_packets.Tie as tie
 
 write-lengths-requires : tie.Need-write-lengths-requires
-write-lengths-requires c κs = let few : length (now (c .before .before .before .before .before .args .lengths)) ≤ 64 = simp (c .before .enum-told4 .given .1) at (c .before .before .before .before .before .pre .1) in omega arith
+write-lengths-requires c κs = let few : length (now (c .before .before .before .before .before .args .lengths)) ≤ packetCount = simp (c .before .enum-told4 .given .1) at (c .before .before .before .before .before .pre .1) in omega arith
 
 returns : tie.Need-returns
 unfolding writePackets
