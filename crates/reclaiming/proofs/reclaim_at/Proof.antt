@@ -16,20 +16,25 @@ flying : (c : tie.Then2)
     → let v : Record = c .before .before .before .before .record-at .result in
     (v .place + 1 < c .before .before .before .before .before .before .before .before .before .args .e .shape .slots) × (v .kind ≡ isoch → v .count ≤ packetCount)
 flying c =
-    let slots = c .before .before .before .before .before .before .before .before .before .args .e .shape .slots in
-    well-placed slots (c .before .before .before .before .record-at .result)
-    (ap (misplaced slots) (c .before .before .before .before .record-at .ensures) ∙ c .before .before .before .before .before .before .before .before .before .pre .3)
+    let at-record-at = c .before .before .before .before in
+    let at-start = at-record-at .before .before .before .before .before in
+    let slots = at-start .args .e .shape .slots in
+    well-placed slots (at-record-at .record-at .result)
+    (ap (misplaced slots) (at-record-at .record-at .ensures) ∙ at-start .pre .3)
     (c .if2 .taken)
 
 returns : tie.Need-returns
 unfolding reclaimAt
-returns c = simp (← c .before .before .before .record-at .ensures, eq-eqb _ _ (c .before .if1 .taken), c .left .ensures)
+returns c =
+    let at-record-at = c .before .before .before in
+    simp (← at-record-at .record-at .ensures, eq-eqb _ _ (c .before .if1 .taken), c .left .ensures)
 
 reclaim-flying-requires : tie.Need-reclaim-flying-requires
 reclaim-flying-requires c κs =
-    let s = c .before .before .before .before .before .before .before .before .before .before .before .pre .0 in
+    let at-start = c .before .before .before .before .before .before .before .before .before .before .before in
+    let s = at-start .pre .0 in
     let f = flying (c .before .before) in
-    let p = c .before .before .before .before .before .before .before .before .before .before .before .pre in (
+    let p = at-start .pre in (
       record { least = s .least; most = s .most; table = s .table; place = f .0; held = s .held },
       p .1,
       p .2,
@@ -38,11 +43,19 @@ reclaim-flying-requires c κs =
 
 returns-2 : tie.Need-returns-2
 unfolding reclaimAt
-returns-2 c = simp (← c .before .before .before .before .before .before .before .before .before .before .before .record-at .ensures, ne-eqb _ _ (c .before .before .before .before .before .before .before .before .before .if1 .left), eq-eqb _ _ (c .before .before .before .before .before .before .before .if2 .taken)) (c .before .before .before .before .reclaim-flying .ensures)
+returns-2 c =
+    let at-reclaim-flying = c .before .before .before .before in
+    let at-if2 = at-reclaim-flying .before .before .before in
+    let at-if1 = at-if2 .before .before in
+    let at-record-at = at-if1 .before .before in
+    simp (← at-record-at .record-at .ensures, ne-eqb _ _ (at-if1 .if1 .left), eq-eqb _ _ (at-if2 .if2 .taken)) (at-reclaim-flying .reclaim-flying .ensures)
 
 returns-3 : tie.Need-returns-3
 unfolding reclaimAt
-returns-3 c = simp (← c .before .before .before .before .before .record-at .ensures, ne-eqb _ _ (c .before .before .before .if1 .left), ne-eqb _ _ (c .before .if2 .left), c .unfinished .ensures)
+returns-3 c =
+    let at-if1 = c .before .before .before in
+    let at-record-at = at-if1 .before .before in
+    simp (← at-record-at .record-at .ensures, ne-eqb _ _ (at-if1 .if1 .left), ne-eqb _ _ (c .before .if2 .left), c .unfinished .ensures)
 
 pub reclaim-at-spec : {M : Type 1} → statement M
 reclaim-at-spec =

@@ -39,9 +39,13 @@ find-id-requires c κs = ok (c .before) .1
 
 reclaim-at-requires : tie.Need-reclaim-at-requires
 reclaim-at-requires c κs =
-    let a = c .before .before .before .before .before .before .before .before .before .before .before .before .before .args in
-    let told = (sym (c .before .before .before .found .given .1) ∙ c .before .before .before .before .before .find-id .ensures) in
-    let tests = ok (c .before .before .before .before .before .before .before) in
+    let at-found = c .before .before .before in
+    let at-find-id = at-found .before .before in
+    let at-before = at-find-id .before in
+    let at-start = at-before .before .before .before .before .before .before .before in
+    let a = at-start .args in
+    let told = (sym (at-found .found .given .1) ∙ at-find-id .find-id .ensures) in
+    let tests = ok (at-before .before) in
     let s = tests .0 in (
       record {
         least = s .least;
@@ -58,18 +62,26 @@ reclaim-at-requires c κs =
 returns-2 : tie.Need-returns-2
 unfolding reclaim
 returns-2 c =
-    let a = c .before .before .before .before .before .before .before .before .before .before .before .args in
-    simp (none (c .before .before .before .before .before))
+    let at-find-id = c .before .before .before in
+    let at-before = at-find-id .before in
+    let at-start = at-before .before .before .before .before .before .before .before in
+    let a = at-start .args in
+    simp (none (at-before .before))
     (ap (λ (x : ReclaimedOne). (x, now (a .records), now (a .packets))) (c .unfinished .ensures)
-    ∙ ap (λ (x : Lookup). reclaimFound x (a .e) (now (a .finished)) (now (a .records)) (now (a .packets))) (sym (c .before .enum-told .given .1) ∙ c .before .before .before .find-id .ensures))
+    ∙ ap (λ (x : Lookup). reclaimFound x (a .e) (now (a .finished)) (now (a .records)) (now (a .packets))) (sym (c .before .enum-told .given .1) ∙ at-find-id .find-id .ensures))
 
 returns-3 : tie.Need-returns-3
 unfolding reclaim reclaimAt
 returns-3 c =
-    let a = c .before .before .before .before .before .before .before .before .before .before .before .before .before .before .before .before .before .before .args in
-    simp (none (c .before .before .before .before .before .before .before .before .before .before .before .before))
-    (c .before .before .before .before .reclaim-at .ensures
-    ∙ ap (λ (x : Lookup). reclaimFound x (a .e) (now (a .finished)) (now (a .records)) (now (a .packets))) (sym (c .before .before .before .before .before .before .before .before .found .given .1) ∙ c .before .before .before .before .before .before .before .before .before .before .find-id .ensures))
+    let at-reclaim-at = c .before .before .before .before in
+    let at-found = at-reclaim-at .before .before .before .before in
+    let at-find-id = at-found .before .before in
+    let at-before = at-find-id .before in
+    let at-start = at-before .before .before .before .before .before .before .before in
+    let a = at-start .args in
+    simp (none (at-before .before))
+    (at-reclaim-at .reclaim-at .ensures
+    ∙ ap (λ (x : Lookup). reclaimFound x (a .e) (now (a .finished)) (now (a .records)) (now (a .packets))) (sym (at-found .found .given .1) ∙ at-find-id .find-id .ensures))
 
 pub reclaim-request-spec : {M : Type 1} → statement M
 reclaim-request-spec =

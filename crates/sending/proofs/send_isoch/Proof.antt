@@ -7,8 +7,10 @@ use Rattle.sending.proofs.send_isoch.Tie as tie
 
 returns : tie.Need-returns
 returns c =
-    let a = c .before .before .before .before .before .before .before .before .before .before .before .before .before .before .before .before .before .before .before .before .args in
-    isoch-is (a .e) (a .v) (now (a .ring)) (now (a .finished)) (now (a .packets)) (now (a .lengths)) (c .before .before .before .before .before .before .before .before .put-isoch .ensures .0) (c .before .before .before .before .before .before .before .before .put-isoch .ensures .1) (c .ended .ensures)
+    let at-put-isoch = c .before .before .before .before .before .before .before .before in
+    let at-start = at-put-isoch .before .before .before .before .before .before .before .before .before .before .before .before in
+    let a = at-start .args in
+    isoch-is (a .e) (a .v) (now (a .ring)) (now (a .finished)) (now (a .packets)) (now (a .lengths)) (at-put-isoch .put-isoch .ensures .0) (at-put-isoch .put-isoch .ensures .1) (c .ended .ensures)
 
 pub send-isoch-spec : {M : Type 1} → statement M
 send-isoch-spec =

@@ -7,8 +7,12 @@ use Rattle.starting.proofs.begin.Tie as tie
 
 returns : tie.Need-returns
 returns c =
-    let a = c .before .before .before .before .before .before .before .before .before .before .before .before .before .args in
-    begun-by (a .e) (now (a .records)) (now (a .packets)) (a .request) (now (a .lengths)) (c .before .before .before .before .before .before .before .before .take .ensures) (c .before .before .before .before .before .record-taken .ensures .0) (c .before .before .before .write-packets .ensures)
+    let at-write-packets = c .before .before .before in
+    let at-record-taken = at-write-packets .before .before in
+    let at-take = at-record-taken .before .before .before in
+    let at-start = at-take .before .before .before .before .before in
+    let a = at-start .args in
+    begun-by (a .e) (now (a .records)) (now (a .packets)) (a .request) (now (a .lengths)) (at-take .take .ensures) (at-record-taken .record-taken .ensures .0) (at-write-packets .write-packets .ensures)
 
 pub begin-spec : {M : Type 1} → statement M
 begin-spec =

@@ -8,7 +8,10 @@ use Rattle.starting.proofs.record_taken.Statement.{statement}
 use Rattle.starting.proofs.record_taken.Tie as tie
 
 returns : tie.Need-returns
-returns c = let e = sym (c .before .found .given .1) ∙ c .before .before .before .lowest .ensures in (ap numberFrom e, found-within (c .before .before .before .before .args .occupancy) e)
+returns c =
+    let at-lowest = c .before .before .before in
+    let at-start = at-lowest .before in
+    let e = sym (c .before .found .given .1) ∙ at-lowest .lowest .ensures in (ap numberFrom e, found-within (at-start .args .occupancy) e)
 
 returns-2 : tie.Need-returns-2
 returns-2 c = let e = sym (c .enum-told .given .1) ∙ c .before .before .lowest .ensures in (ap numberFrom e, omega arith)

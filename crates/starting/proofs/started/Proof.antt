@@ -6,7 +6,9 @@ use Rattle.starting.proofs.started.Tie as tie
 
 returns : tie.Need-returns
 unfolding startedBy
-returns c = simp (c .buffer-of .ensures, c .before .before .required-of .ensures, c .before .before .before .taken .ensures)
+returns c =
+    let at-taken = c .before .before .before in
+    simp (c .buffer-of .ensures, c .before .before .required-of .ensures, at-taken .taken .ensures)
 
 pub started-spec : {M : Type 1} → statement M
 started-spec =

@@ -7,7 +7,11 @@ use Rattle.starting.proofs.take.Tie as tie
 returns : tie.Need-returns
 unfolding takenWith
 returns c =
-    simp (c .started .ensures, c .before .before .before .put-record .ensures, c .before .before .before .before .before .record-for .ensures, c .before .before .before .before .before .before .free-id .ensures, c .before .before .before .before .before .before .before .before .record-taken .ensures .0)
+    let at-put-record = c .before .before .before in
+    let at-record-for = at-put-record .before .before in
+    let at-free-id = at-record-for .before in
+    let at-record-taken = at-free-id .before .before in
+    simp (c .started .ensures, at-put-record .put-record .ensures, at-record-for .record-for .ensures, at-free-id .free-id .ensures, at-record-taken .record-taken .ensures .0)
 
 pub take-spec : {M : Type 1} → statement M
 take-spec =

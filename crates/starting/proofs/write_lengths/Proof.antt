@@ -16,7 +16,10 @@ returns c =
     simp (none-given (now (a .lengths)) (c .if1 .taken)) (one-stored (now (a .packets)) (packetCount * a .number) room)
 
 returns-2 : tie.Need-returns-2
-returns-2 c = simp (some-given (now (c .before .before .before .before .before .before .before .args .lengths)) (c .before .before .before .before .if1 .left), c .before .before .copy-lengths .ensures)
+returns-2 c =
+    let at-if1 = c .before .before .before .before in
+    let at-start = at-if1 .before .before .before in
+    simp (some-given (now (at-start .args .lengths)) (at-if1 .if1 .left), c .before .before .copy-lengths .ensures)
 
 pub write-lengths-spec : {M : Type 1} → statement M
 write-lengths-spec =

@@ -26,7 +26,9 @@ returns-3 c = simp (c .enum-told3 .given .1)
 
 returns-4 : tie.Need-returns-4
 unfolding writePackets
-returns-4 c = simp (c .before .before .before .before .enum-told4 .given .1, c .before .before .write-lengths .ensures)
+returns-4 c =
+    let at-enum-told4 = c .before .before .before .before in
+    simp (at-enum-told4 .enum-told4 .given .1, c .before .before .write-lengths .ensures)
 
 pub write-packets-spec : {M : Type 1} → statement M
 write-packets-spec =

@@ -8,13 +8,23 @@ returns : tie.Need-returns
 returns c = simp (failed (c .before .fits-with .ensures) (c .if1 .taken))
 
 returns-2 : tie.Need-returns-2
-returns-2 c = simp (passed (c .before .before .before .fits-with .ensures) (c .before .before .if1 .left), failed (c .before .is-sized .ensures) (c .if2 .taken))
+returns-2 c =
+    let at-fits-with = c .before .before .before in
+    simp (passed (at-fits-with .fits-with .ensures) (c .before .before .if1 .left), failed (c .before .is-sized .ensures) (c .if2 .taken))
 
 returns-3 : tie.Need-returns-3
-returns-3 c = simp (passed (c .before .before .before .before .before .fits-with .ensures) (c .before .before .before .before .if1 .left), passed (c .before .before .before .is-sized .ensures) (c .before .before .if2 .left), failed (c .before .is-sized2 .ensures) (c .if3 .taken))
+returns-3 c =
+    let at-is-sized = c .before .before .before in
+    let at-if1 = at-is-sized .before in
+    let at-fits-with = at-if1 .before in
+    simp (passed (at-fits-with .fits-with .ensures) (at-if1 .if1 .left), passed (at-is-sized .is-sized .ensures) (c .before .before .if2 .left), failed (c .before .is-sized2 .ensures) (c .if3 .taken))
 
 returns-4 : tie.Need-returns-4
-returns-4 c = simp (passed (c .before .before .before .before .before .fits-with .ensures) (c .before .before .before .before .if1 .left), passed (c .before .before .before .is-sized .ensures) (c .before .before .if2 .left), passed (c .before .is-sized2 .ensures) (c .if3 .left))
+returns-4 c =
+    let at-is-sized = c .before .before .before in
+    let at-if1 = at-is-sized .before in
+    let at-fits-with = at-if1 .before in
+    simp (passed (at-fits-with .fits-with .ensures) (at-if1 .if1 .left), passed (at-is-sized .is-sized .ensures) (c .before .before .if2 .left), passed (c .before .is-sized2 .ensures) (c .if3 .left))
 
 pub is-unfit-spec : {M : Type 1} → statement M
 is-unfit-spec =

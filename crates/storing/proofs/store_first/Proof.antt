@@ -5,11 +5,16 @@ use Rattle.storing.proofs.store_first.Statement.{statement}
 use Rattle.storing.proofs.store_first.Tie as tie
 
 concluded-requires : tie.Need-concluded-requires
-concluded-requires c κs = simp (c .with-store .ensures) (c .before .before .before .before .before .before .before .before .before .before .before .pre .2)
+concluded-requires c κs =
+    let at-start = c .before .before .before .before .before .before .before .before .before .before .before in
+    simp (c .with-store .ensures) (at-start .pre .2)
 
 returns : tie.Need-returns
 unfolding firstBy
-returns c = simp (c .concluded .ensures, c .before .with-store .ensures, c .before .before .with-stored .ensures, c .before .before .before .before .before .before .set-transfer-trb .ensures, c .before .before .before .before .before .before .before .first-trb .ensures)
+returns c =
+    let at-set-transfer-trb = c .before .before .before .before .before .before in
+    let at-first-trb = at-set-transfer-trb .before in
+    simp (c .concluded .ensures, c .before .with-store .ensures, c .before .before .with-stored .ensures, at-set-transfer-trb .set-transfer-trb .ensures, at-first-trb .first-trb .ensures)
 
 pub store-first-spec : {M : Type 1} → statement M
 store-first-spec =

@@ -10,8 +10,10 @@ use Rattle.storing.proofs.store_no.Tie as tie
 returns : tie.Need-returns
 unfolding storeNo storeTests
 returns c =
-    let a = c .before .before .before .before .before .args in
-    simp (c .earlier2 .ensures, c .before .before .earlier .ensures, c .before .before .before .is-unfit .ensures)
+    let at-is-unfit = c .before .before .before in
+    let at-start = at-is-unfit .before .before in
+    let a = at-start .args in
+    simp (c .earlier2 .ensures, c .before .before .earlier .ensures, at-is-unfit .is-unfit .ensures)
     (folded (storeTests (a .e) (a .ring) (a .finished) (now (a .records)) (a .packets)) refl)
 
 pub store-no-spec : {M : Type 1} → statement M

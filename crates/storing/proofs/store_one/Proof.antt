@@ -28,38 +28,55 @@ store-trb-requires c κs = let k = c .before .before .before .before .before .be
 returns : tie.Need-returns
 unfolding storedBy
 returns c =
-    let a = c .before .before .before .before .before .before .before .before .before .before .before .before .args in
-    let v = c .before .before .before .before .before .before .before .record-at .result in
-    simp (← c .before .before .before .before .before .before .before .record-at .ensures, sym (c .before .before .before .before .before .before .next-of .ensures) ∙ ap named (c .before .before .before .before .enum-told .given .1))
+    let at-enum-told = c .before .before .before .before in
+    let at-next-of = at-enum-told .before .before in
+    let at-record-at = at-next-of .before in
+    let at-start = at-record-at .before .before .before .before .before in
+    let a = at-start .args in
+    let v = at-record-at .record-at .result in
+    simp (← at-record-at .record-at .ensures, sym (at-next-of .next-of .ensures) ∙ ap named (at-enum-told .enum-told .given .1))
     (ap (λ (x : StoredOne × List ℕ). (x .0, x .1, now (a .finished))) (c .before .before .store-link .ensures)
     ∙ link-stored (a .e) v (now (a .ring)) (now (a .finished)) (now (a .packets)))
 
 returns-2 : tie.Need-returns-2
 unfolding storedBy
 returns-2 c =
-    let a = c .before .before .before .before .before .before .before .before .before .before .before .before .before .before .before .before .args in
-    let v = c .before .before .before .before .before .before .before .before .before .before .before .record-at .result in
-    simp (← c .before .before .before .before .before .before .before .before .before .before .before .record-at .ensures, sym (c .before .before .before .before .before .before .before .before .before .before .next-of .ensures) ∙ ap named (c .before .before .before .before .before .before .before .before .enum-told2 .given .1))
-    (c .before .before .before .before .store-trb .ensures
-    ∙ ap (λ (p : Packet). trbBy (a .e) v (p .requested) (now (a .ring)) (now (a .finished))) (c .before .before .before .before .before .before .before .packet-at .ensures)
+    let at-store-trb = c .before .before .before .before in
+    let at-packet-at = at-store-trb .before .before .before in
+    let at-enum-told2 = at-packet-at .before in
+    let at-next-of = at-enum-told2 .before .before in
+    let at-record-at = at-next-of .before in
+    let at-start = at-record-at .before .before .before .before .before in
+    let a = at-start .args in
+    let v = at-record-at .record-at .result in
+    simp (← at-record-at .record-at .ensures, sym (at-next-of .next-of .ensures) ∙ ap named (at-enum-told2 .enum-told2 .given .1))
+    (at-store-trb .store-trb .ensures
+    ∙ ap (λ (p : Packet). trbBy (a .e) v (p .requested) (now (a .ring)) (now (a .finished))) (at-packet-at .packet-at .ensures)
     ∙ trb-stored (a .e) v (now (a .ring)) (now (a .finished)) (now (a .packets)))
 
 returns-3 : tie.Need-returns-3
 unfolding storedBy
 returns-3 c =
-    let a = c .before .before .before .before .before .before .before .before .before .before .before .before .args in
-    let v = c .before .before .before .before .before .before .before .record-at .result in
-    let next = sym (c .before .before .before .before .before .before .next-of .ensures) ∙ ap named (c .before .before .before .before .enum-told3 .given .1) in
-    simp (← c .before .before .before .before .before .before .before .record-at .ensures, next)
+    let at-enum-told3 = c .before .before .before .before in
+    let at-next-of = at-enum-told3 .before .before in
+    let at-record-at = at-next-of .before in
+    let at-start = at-record-at .before .before .before .before .before in
+    let a = at-start .args in
+    let v = at-record-at .record-at .result in
+    let next = sym (at-next-of .next-of .ensures) ∙ ap named (at-enum-told3 .enum-told3 .given .1) in
+    simp (← at-record-at .record-at .ensures, next)
     (ap (λ (x : StoredOne × List ℕ). (x .0, x .1, now (a .finished))) (c .before .before .store-first .ensures)
     ∙ first-stored (a .e) v (now (a .ring)) (now (a .finished)) (now (a .packets)) (because (a .e) v theFirst next .1))
 
 returns-4 : tie.Need-returns-4
 unfolding storedBy
 returns-4 c =
-    let a = c .before .before .before .before .before .before .before .before .before .args in
-    let v = c .before .before .before .before .record-at .result in
-    simp (← c .before .before .before .before .record-at .ensures, sym (c .before .before .before .next-of .ensures) ∙ ap named (c .before .enum-told4 .given .1), c .concluded .ensures)
+    let at-next-of = c .before .before .before in
+    let at-record-at = at-next-of .before in
+    let at-start = at-record-at .before .before .before .before .before in
+    let a = at-start .args in
+    let v = at-record-at .record-at .result in
+    simp (← at-record-at .record-at .ensures, sym (at-next-of .next-of .ensures) ∙ ap named (c .before .enum-told4 .given .1), c .concluded .ensures)
     (none-stored (a .e) v (now (a .ring)) (now (a .finished)) (now (a .packets)))
 
 pub store-one-spec : {M : Type 1} → statement M

@@ -7,18 +7,24 @@ use Rattle.storing.proofs.store_trb.Tie as tie
 
 concluded-requires : tie.Need-concluded-requires
 unfolding advancedBy
-concluded-requires c κs = simp (c .advanced .ensures) (c .before .before .before .before .before .before .before .before .before .before .before .before .before .pre .4)
+concluded-requires c κs =
+    let at-start = c .before .before .before .before .before .before .before .before .before .before .before .before .before in
+    simp (c .advanced .ensures) (at-start .pre .4)
 
 returns : tie.Need-returns
 unfolding trbBy
 returns c =
+    let at-clear-finished = c .before .before .before .before in
+    let at-set-transfer-trb = at-clear-finished .before .before .before .before in
+    let at-first-cycle = at-set-transfer-trb .before in
+    let at-trb-of = at-first-cycle .before .before in
     simp (
       c .concluded .ensures,
       c .before .advanced .ensures,
-      c .before .before .before .before .clear-finished .ensures,
-      c .before .before .before .before .before .before .before .before .set-transfer-trb .ensures,
-      c .before .before .before .before .before .before .before .before .before .before .before .trb-of .ensures,
-      c .before .before .before .before .before .before .before .before .before .first-cycle .ensures,
+      at-clear-finished .clear-finished .ensures,
+      at-set-transfer-trb .set-transfer-trb .ensures,
+      at-trb-of .trb-of .ensures,
+      at-first-cycle .first-cycle .ensures,
     )
 
 pub store-trb-spec : {M : Type 1} → statement M

@@ -35,8 +35,10 @@ begin-requires c κs = admitted _ _ _ _ _ (none (c .before .before))
 returns-2 : tie.Need-returns-2
 unfolding start begunWith
 returns-2 c =
-    simp (none (c .before .before .before .before .before .before .before))
-    (ap done (c .before .before .before .before .begin .ensures))
+    let at-begin = c .before .before .before .before in
+    let at-before = at-begin .before .before in
+    simp (none (at-before .before))
+    (ap done (at-begin .begin .ensures))
 
 pub start-request-spec : {M : Type 1} → statement M
 start-request-spec =

@@ -25,7 +25,10 @@ store-one-requires c κs = ready _ _ _ _ _ (none (c .before .before))
 
 returns-2 : tie.Need-returns-2
 unfolding store storedWith storedBy
-returns-2 c = simp (none (c .before .before .before .before .before .before .before)) (c .before .before .before .before .store-one .ensures)
+returns-2 c =
+    let at-store-one = c .before .before .before .before in
+    let at-before = at-store-one .before .before in
+    simp (none (at-before .before)) (at-store-one .store-one .ensures)
 
 pub next-store-spec : {M : Type 1} → statement M
 next-store-spec =

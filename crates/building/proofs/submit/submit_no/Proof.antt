@@ -13,12 +13,15 @@ returns c =
 returns-2 : tie.Need-returns-2
 unfolding submitNo
 returns-2 c =
-    simp (passed (c .before .before .before .is-sized .ensures) (c .before .before .if1 .left), failed (c .before .is-sized2 .ensures) (c .if2 .taken))
+    let at-is-sized = c .before .before .before in
+    simp (passed (at-is-sized .is-sized .ensures) (c .before .before .if1 .left), failed (c .before .is-sized2 .ensures) (c .if2 .taken))
 
 returns-3 : tie.Need-returns-3
 unfolding submitNo
 returns-3 c =
-    simp (passed (c .before .before .before .before .is-sized .ensures) (c .before .before .before .if1 .left), passed (c .before .before .is-sized2 .ensures) (c .before .if2 .left), c .start-no .ensures)
+    let at-if1 = c .before .before .before in
+    let at-is-sized = at-if1 .before in
+    simp (passed (at-is-sized .is-sized .ensures) (at-if1 .if1 .left), passed (c .before .before .is-sized2 .ensures) (c .before .if2 .left), c .start-no .ensures)
 
 pub submit-no-spec : {M : Type 1} → statement M
 submit-no-spec =
