@@ -5,7 +5,7 @@ ghost use Prim.Native.Nat.{_-_, _<_};
 ghost use lib.Dec.{ltb, eqb};
 ghost use Rattle.base.specs.First.{first};
 ghost use Rattle.sizes.specs.Sizes.{recordCount};
-ghost use Rattle.dock.specs.Reclaim.{leave, mismatched, completeTests, completion, completeAnswer, complete, nothing};
+ghost use Rattle.dock.specs.Reclaim.{leave, mismatched, completeTests, completion, completeAnswer, complete, nothing, reclaimStopped};
 use dock::Account;
 use dock::Completion;
 use dock::Endpoint;
@@ -81,6 +81,17 @@ fn says_yes(size: u64, incoming: bool) -> bool
         return false;
     }
     incoming
+}
+
+// A stopped record is freed; its TRBs left flight when it was retired.
+pub fn stopped(e: Endpoint, v: Record, number: usize) -> ReclaimedOne
+    requires { ⌜ number < recordCount ⌝ }
+    ensures { λ r. ⌜ r ≡ reclaimStopped e v number ⌝ }
+{
+    ReclaimedOne {
+        answer: Reclaimed::Cancelled,
+        endpoint: left(e, number, 0, false),
+    }
 }
 
 fn came_to(v: Record, number: usize, size: u64) -> Completion

@@ -60,7 +60,7 @@ use Rattle.dock.specs.Trbs.{trbOf, firstTrb, linkFor}
 use Rattle.dock.specs.NextStore.{storeTests, storeNo, stepped, ringStored, finishedStored, settled, firstCycle}
 use Rattle.dock.specs.NextStore as storing
 use Rattle.dock.specs.HandOver.{slotNumber, slotFor, handOverNo, handOver}
-use Rattle.dock.specs.Reclaim.{leave, nothing, badRecord, reclaimTests, reclaimNo, reclaimFlying, reclaimFound, reclaim}
+use Rattle.dock.specs.Reclaim.{final, leave, nothing, badRecord, reclaimTests, reclaimNo, reclaimFlying, reclaimFound, reclaim}
 use Rattle.dock.specs.Cancel.{marked, cancelNo, cancel}
 use Rattle.dock.specs.Retire.{recordTests, recordNo, retiredBelow, retire}
 use Rattle.dock.specs.Reset.{beginNo, beginReset, endNo, endReset}
@@ -69,7 +69,7 @@ use Rattle.dock.proofs.Reached.{flightPart, flightSum, Books, Sound, re
 use Rattle.dock.proofs.ReachedBookLaws.{Alike, alike-same, alike-set, flies-alike, books-alike, books-freed, books-taken, taken-long, taken-flies, part-flies, part-none}
 use Rattle.dock.proofs.RetireLaws.{picked, sum-none, retiring, books-retired}
 use Rattle.dock.proofs.SubmitLaws.{submit-keeps}
-use Rattle.dock.proofs.ReclaimLaws.{final, Left, own-record-same, own-packets-same, Touches, flying-touches}
+use Rattle.dock.proofs.ReclaimLaws.{Left, own-record-same, own-packets-same, Touches, flying-touches}
 
 -- ---- tests that were passed
 

@@ -27,20 +27,11 @@ use Rattle.dock.specs.declared.Reclaimed.{Reclaimed}
 use Rattle.dock.specs.declared.Reclaimed.the-variants as answer
 use Rattle.dock.specs.declared.ReclaimedOne.{ReclaimedOne}
 use Rattle.dock.specs.Worth.{Worth, bytes, refused, worth, accepted}
-use Rattle.dock.specs.Reclaim.{leave, completeTests, completeAnswer, complete, nothing, codeOf, remainingOf, bulkBy, reclaimBulk, Seen, onward, ends, stageBy, statusBy, recordedBy, statusPlace, dataSeen, afterStage, recordsAfter, reclaimControl, counted, closeBelow, Swept, unfinished, fatal, found, sweptBy, sweptAt, sweep, sweptAnswer, reclaimIso, reclaimFlying, placeOf}
+use Rattle.dock.specs.Reclaim.{leave, final, completeTests, completeAnswer, complete, nothing, codeOf, remainingOf, bulkBy, reclaimBulk, Seen, onward, ends, stageBy, statusBy, recordedBy, statusPlace, dataSeen, afterStage, recordsAfter, reclaimControl, counted, closeBelow, Swept, unfinished, fatal, found, sweptBy, sweptAt, sweep, sweptAnswer, reclaimIso, reclaimFlying, placeOf}
 use Rattle.dock.proofs.ReachedBookLaws.{Alike, alike-same, alike-set}
 use Rattle.dock.proofs.RetireLaws.{picked}
 
 -- ---- the answer and the endpoint
-
--- The answers with which a request is over.
-abbrev pub final : Reclaimed → Bool
-final (answer.Done c) = true
-final answer.Cancelled = true
-final (answer.Failed code) = true
-final answer.Mismatch = true
-final answer.Nothing = false
-final (answer.Refused number) = false
 
 -- The record has left: it is freed and its count taken off.
 pub record Left (e : Endpoint) (number count : ℕ) (x : ReclaimedOne) : Type 0 where
@@ -52,7 +43,7 @@ pub record Left (e : Endpoint) (number count : ℕ) (x : ReclaimedOne) : Type 0 
 abbrev pub Ends : Endpoint → ℕ → ℕ → ReclaimedOne → Type 0
 Ends e number count x = (x ≡ nothing e) ⊎ Left e number count x
 
-over-answer : (which : ℕ) (v : Record) (number code size : ℕ) → final (completeAnswer which v number code size) ≡ true
+pub over-answer : (which : ℕ) (v : Record) (number code size : ℕ) → final (completeAnswer which v number code size) ≡ true
 over-answer which v number code size =
     picked (λ (x : Reclaimed). final x ≡ true) (eqb which 7) _ _ (λ t. refl)
     (λ t. picked (λ (x : Reclaimed). final x ≡ true) (eqb which 9) _ _ (λ s. refl)

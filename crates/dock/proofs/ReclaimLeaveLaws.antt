@@ -24,46 +24,31 @@ use Rattle.dock.specs.declared.Endpoint.{Endpoint}
 use Rattle.dock.specs.declared.Reclaimed.{Reclaimed}
 use Rattle.dock.specs.declared.Reclaimed.the-variants as answer
 use Rattle.dock.specs.declared.ReclaimedOne.{ReclaimedOne}
-use Rattle.dock.specs.Reclaim.{leave, completeTests, completion, complete, nothing, codeOf, bulkBy, reclaimBulk, Seen, onward, ends, stageBy, statusBy, statusPlace, dataSeen, recordedBy, afterStage, recordsAfter, reclaimControl, Swept, unfinished, fatal, found, sweptAnswer, reclaimIso, sweep, reclaimNo, reclaimFlying, reclaimFound, reclaim}
+use Rattle.dock.specs.Reclaim.{leave, final, reclaimStopped, completeTests, completion, completeAnswer, complete, nothing, codeOf, bulkBy, reclaimBulk, Seen, onward, ends, stageBy, statusBy, statusPlace, dataSeen, recordedBy, afterStage, recordsAfter, reclaimControl, Swept, unfinished, fatal, found, sweptAnswer, reclaimIso, sweep, reclaimNo, reclaimFlying, reclaimFound, reclaim}
 use Rattle.dock.specs.Worth.{accepted}
+use Rattle.dock.proofs.ReclaimLaws.{over-answer}
 use Rattle.dock.proofs.RefusalLaws.{reclaim-refuses, reclaim-acts}
 
--- ---- an answer that settles the request, and one that does not
-
-abbrev settles : Reclaimed → Bool
-settles (answer.Done c) = true
-settles answer.Cancelled = true
-settles (answer.Failed code) = true
-settles answer.Mismatch = true
-settles answer.Nothing = false
-settles (answer.Refused number) = false
+-- ---- an answer that final the request, and one that does not
 
 -- Where the answer is nothing the endpoint is as it was, and it is no refusal.
 record Honest (e : Endpoint) (r : ReclaimedOne) : Type 0 where
   nothing : r .answer ≡ answer.Nothing → r .endpoint ≡ e
   admitted : (number : ℕ) → r .answer ≡ answer.Refused number → ⊥
 
-settled : (e : Endpoint) (r : ReclaimedOne) → settles (r .answer) ≡ true → Honest e r
+settled : (e : Endpoint) (r : ReclaimedOne) → final (r .answer) ≡ true → Honest e r
 settled e r s = record {
-  nothing = λ q. absurd (false≢true (sym (ap settles q) ∙ s));
-  admitted = λ number q. false≢true (sym (ap settles q) ∙ s);
+  nothing = λ q. absurd (false≢true (sym (ap final q) ∙ s));
+  admitted = λ number q. false≢true (sym (ap final q) ∙ s);
 }
 
 stays : (e : Endpoint) → Honest e (nothing e)
 stays e = record { nothing = λ q. refl; admitted = λ number q. let z : _≡_ {A = ℕ} 0 1 = cc in omega arith }
 
-answered : (a b c : Bool) (code : ℕ) (done : Completion)
-    → settles (pick a answer.Cancelled (pick b answer.Mismatch (pick c (answer.Failed code) (answer.Done done)))) ≡ true
-answered true b c code done = refl
-answered false true c code done = refl
-answered false false true code done = refl
-answered false false false code done = refl
-
 completes : (e : Endpoint) (v : Record) (number code : ℕ) (fails : Bool) (size : ℕ) → Honest e (complete e v number code fails size)
 unfolding complete
 completes e v number code fails size =
-    let which = first (completeTests v fails) in
-    settled e (complete e v number code fails size) (answered (eqb which 7) (eqb which 9) (eqb which 8) code (completion v number size))
+    settled e (complete e v number code fails size) (over-answer (first (completeTests v fails)) v number code size)
 
 -- ---- by the kind of the request
 
@@ -149,7 +134,7 @@ found-fair e finished records packets Nothing = record { one = stays e; table = 
 found-fair e finished records packets (At r) =
     let v = recordAt records r in
     chosen e (At r) records (eqb (v .state) stopped) _ _
-    (record { one = settled e (record { answer = answer.Cancelled; endpoint = leave e r 0 false }) refl; table = inl refl })
+    (record { one = settled e (reclaimStopped e v r) refl; table = inl refl })
     (chosen e (At r) records (eqb (v .state) inFlight) _ _
     (flying-fair e finished records packets v r)
     (record { one = stays e; table = inl refl }))

@@ -31,12 +31,11 @@ use Rattle.dock.specs.declared.Reclaimed.the-variants as answer
 use Rattle.dock.specs.declared.ReclaimedOne.{ReclaimedOne}
 use Rattle.dock.specs.Trbs.{trbCount}
 use Rattle.dock.specs.Worth.{Worth, bytes, refused, worth, accepted}
-use Rattle.dock.specs.Reclaim.{complete, bulkBy, Seen, onward, ends, stageBy, statusBy, recordedBy, afterStage, codeOf, remainingOf, placeOf, counted, closeBelow, Swept, found, sweptBy, sweptAt, sweep, sweptAnswer, reclaimIso, dataSeen, dataPlace, statusPlace, reclaimControl, reclaimBulk, badRecord, reclaimTests, reclaimNo, reclaimFlying, reclaimFound, reclaim, nothing}
+use Rattle.dock.specs.Reclaim.{final, complete, bulkBy, Seen, onward, ends, stageBy, statusBy, recordedBy, afterStage, codeOf, remainingOf, placeOf, counted, closeBelow, Swept, found, sweptBy, sweptAt, sweep, sweptAnswer, reclaimIso, dataSeen, dataPlace, statusPlace, reclaimControl, reclaimBulk, badRecord, reclaimTests, reclaimNo, reclaimFlying, reclaimFound, reclaim, nothing}
 use Rattle.dock.proofs.ReclaimAnswerLaws.{never-done, refused-not-done}
 use Rattle.dock.proofs.RefusalLaws.{reclaim-acts}
 use Rattle.dock.proofs.ReachedSoundLaws.{few-packets, both-false}
 use Rattle.dock.proofs.RetireLaws.{picked}
-use Rattle.dock.proofs.ReclaimLaws.{final}
 use Rattle.dock.proofs.ReclaimSettleLaws.{Refuses, Ending, ran, broke, closed}
 use Rattle.dock.proofs.ReclaimCountLaws.{Walks, reclaim-settles, few}
 

@@ -31,14 +31,15 @@ use Rattle.dock.specs.declared.ReclaimedOne.{ReclaimedOne}
 use Rattle.dock.specs.RowOne.{placesFit, fits, strays, fitsWith}
 use Rattle.dock.specs.State.{withAccount}
 use Rattle.dock.specs.Start.{idTaken}
-use Rattle.dock.specs.Reclaim.{leave, nothing, badRecord, reclaimTests, reclaimNo, reclaimFound, reclaim}
+use Rattle.dock.specs.Numbers.{reclaimedNumber}
+use Rattle.dock.specs.Reclaim.{final, reclaimStopped, leave, nothing, badRecord, reclaimTests, reclaimNo, reclaimFound, reclaim}
 use Rattle.dock.specs.Cancel.{cancelTests, cancelNo, cancel}
 use Rattle.dock.specs.Retire.{recordTests, recordNo, retiredBelow, retire}
 use Rattle.dock.specs.Run.{State, reclaims, retires, after, Reached, next}
 use Rattle.dock.proofs.Reached.{flightPart, flightSum, Sound}
 use Rattle.dock.proofs.ReachedBookLaws.{Alike, freed-here, freed-other, freed-exact}
 use Rattle.dock.proofs.RetireLaws.{picked, retiredAccount, retired-none, retired-stopped, retiring}
-use Rattle.dock.proofs.ReclaimLaws.{final, Left}
+use Rattle.dock.proofs.ReclaimLaws.{Left}
 use Rattle.dock.proofs.ReachedFitLaws.{reached-fits}
 use Rattle.dock.proofs.ReachedSoundLaws.{by-fits-with, Untouched, Looked, reclaim-result, reclaim-idle, reached-sound}
 
@@ -110,7 +111,7 @@ module _ (s : State) (h : Sound s) (ready : Ready (s .endpoint)) (id : ℕ) wher
     not-bad = rw not-flying
 
     pub stopped-cancelled : reclaim (s .endpoint) (s .finished) (s .records) (s .packets) id
-        ≡ (record { answer = answer.Cancelled; endpoint = leave (s .endpoint) r 0 false }, s .records, s .packets)
+        ≡ (reclaimStopped (s .endpoint) (recordAt (s .records) r) r, s .records, s .packets)
     stopped-cancelled =
         let is : eqb (recordAt (s .records) r .state) stopped ≡ true = eq-eqb _ _ stops in
         reclaim-looks (lookup.At r) (sym found) not-bad ∙ rw is
@@ -286,7 +287,7 @@ module _ {s : State} (h : Reached s) (idle : s .endpoint .work .busy ≡ false) 
     (stops : recordAt (s .records) r .state ≡ stopped) where
   -- A stopped id is reclaimed as `Cancelled` (7), and its record freed,
   pub stopped-reclaimed : reclaim (s .endpoint) (s .finished) (s .records) (s .packets) id
-      ≡ (record { answer = answer.Cancelled; endpoint = leave (s .endpoint) r 0 false }, s .records, s .packets)
+      ≡ (reclaimStopped (s .endpoint) (recordAt (s .records) r) r, s .records, s .packets)
   stopped-reclaimed = stopped-cancelled s (reached-sound h) (reached-ready h idle) id r (held-found s (reached-sound h) id r l has) stops
 
   -- once,
@@ -369,9 +370,9 @@ module _ {s : State} (h : Reached s) (done : retire (s .endpoint) (s .records) .
   has-then : Has t its r
   has-then = retired-has s (reached-sound h) passed r mine
 
-  pub retired-cancelled : reclaim (t .endpoint) (t .finished) (t .records) (t .packets) its .0 .answer ≡ answer.Cancelled
+  pub retired-cancelled : reclaimedNumber (reclaim (t .endpoint) (t .finished) (t .records) (t .packets) its .0 .answer) .0 ≡ 7
   retired-cancelled =
-      ap (λ (x : ReclaimedOne × List ℕ × List ℕ). x .0 .answer) (stopped-reclaimed (next h retires) idle-then its r l has-then (retire-stops h done r l mine))
+      ap (λ (x : ReclaimedOne × List ℕ × List ℕ). reclaimedNumber (x .0 .answer) .0) (stopped-reclaimed (next h retires) idle-then its r l has-then (retire-stops h done r l mine))
 
   pub retired-once : let u = after t (reclaims its) in reclaim (u .endpoint) (u .finished) (u .records) (u .packets) its ≡ (nothing (u .endpoint), u .records, u .packets)
   retired-once = stopped-once (next h retires) idle-then its r l has-then (retire-stops h done r l mine)

@@ -77,6 +77,19 @@ complete e v number code fails size =
       endpoint = leave e number (v .count) (not (v .cancelled) && eqb code 6);
     }
 
+-- The answers with which a request is over: rows 0, 7, 8 and 9.
+abbrev pub final : Reclaimed → Bool
+final (answer.Done c) = true
+final answer.Cancelled = true
+final (answer.Failed code) = true
+final answer.Mismatch = true
+final answer.Nothing = false
+final (answer.Refused row) = false
+
+-- "Reclaim of a stopped id" is 7, and the record freed: its TRBs left flight when it was retired.
+abbrev pub reclaimStopped : Endpoint → Record → ℕ → ReclaimedOne
+reclaimStopped e v number = record { answer = answer.Cancelled; endpoint = leave e number 0 false }
+
 -- Row 10: nothing.
 abbrev pub nothing : Endpoint → ReclaimedOne
 nothing e = record { answer = answer.Nothing; endpoint = e }
@@ -243,12 +256,12 @@ reclaimFlying e finished records packets v number =
     (pick (eqb (v .kind) bulk || eqb (v .kind) interrupt) (reclaimBulk e finished v number, records, packets)
     (nothing e, records, packets)))
 
--- "Reclaim of a stopped id" is 7, and the record freed: its TRBs left flight when it was retired. An id that is not held is 10.
+-- A record by its state: stopped, in flight, or neither. An id that is not held is 10.
 abbrev pub reclaimFound : Lookup → Endpoint → List ℕ → List ℕ → List ℕ → ReclaimedOne × List ℕ × List ℕ
 reclaimFound Nothing e finished records packets = (nothing e, records, packets)
 reclaimFound (At r) e finished records packets =
     let v = recordAt records r in
-    pick (eqb (v .state) stopped) (record { answer = answer.Cancelled; endpoint = leave e r 0 false }, records, packets)
+    pick (eqb (v .state) stopped) (reclaimStopped e v r, records, packets)
     (pick (eqb (v .state) inFlight) (reclaimFlying e finished records packets v r) (nothing e, records, packets))
 
 unfoldable pub reclaim : Endpoint → List ℕ → List ℕ → List ℕ → ℕ → ReclaimedOne × List ℕ × List ℕ

@@ -64,7 +64,7 @@ fn next_place(slots: usize, place: usize) -> usize
 fn is_fitting(packets: usize, finished: usize, b: Block) -> bool
     ensures { λ r. ⌜ r ≡ fitting packets finished b ⌝ }
 {
-    if b.slots > 4096 {
+    if b.slots > sizes::MOST_SLOTS {
         return false;
     }
     if b.place >= b.slots {

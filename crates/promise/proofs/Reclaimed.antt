@@ -25,14 +25,14 @@ use Rattle.records.specs.declared.Record.{Record}
 use Rattle.dock.specs.declared.Endpoint.{Endpoint}
 use Rattle.dock.specs.declared.ReclaimedOne.{ReclaimedOne}
 use Rattle.dock.specs.RowOne.{flies}
-use Rattle.dock.specs.Reclaim.{leave, nothing, placeOf, reclaimFlying, reclaimFound, reclaim}
+use Rattle.dock.specs.Reclaim.{final, leave, nothing, placeOf, reclaimFlying, reclaimFound, reclaim}
 use Rattle.dock.proofs.ReachedBookLaws.{by-flies, freed-sum}
 use Rattle.dock.proofs.ReachedSoundLaws.{Untouched, Looked, reclaim-result, reclaim-idle}
 use Rattle.dock.proofs.ReclaimLeaveLaws.{reclaim-records}
 use Rattle.dock.proofs.ReclaimOnceLaws.{held-found}
 use Rattle.dock.proofs.Reached.{Sound, flightPart}
 use Rattle.dock.specs.Run.{stateOf, reclaims}
-use Rattle.dock.proofs.ReclaimLaws.{final, Left}
+use Rattle.dock.proofs.ReclaimLaws.{Left}
 use Rattle.dock.proofs.RefusalLaws.{reclaim-acts}
 use Rattle.order.specs.Flat.{flat}
 use Rattle.order.specs.Model as model

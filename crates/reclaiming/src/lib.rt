@@ -17,7 +17,6 @@ ghost use Rattle.dock.specs.Reclaim.{reclaimFlying};
 ghost use Rattle.checks.specs.Shown.{Shown};
 ghost use Rattle.refusal.specs.Misplaced.{misplaced};
 ghost use Rattle.reclaiming.specs.Parts.{reclaimAt};
-use completing::left;
 use completing::unfinished;
 use dock::Endpoint;
 use dock::Reclaimed;
@@ -73,10 +72,7 @@ fn reclaim_at(
 {
     let v = records::record_at(records, r);
     if v.state == STOPPED {
-        return ReclaimedOne {
-            answer: Reclaimed::Cancelled,
-            endpoint: left(e, r, 0, false),
-        };
+        return completing::stopped(e, v, r);
     }
     if v.state == IN_FLIGHT {
         return reclaim_flying(e, finished, records, packets, v, r);

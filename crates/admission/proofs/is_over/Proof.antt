@@ -3,6 +3,7 @@ use Prim.Native.Nat.{_-_, _≤_}
 use native.Mathlib.Omega.{arith}
 use borrow.Author.Needs.{needs}
 use Rattle.base.proofs.Decide.{if-so, if-not, by-ltb}
+use Rattle.sizes.specs.Sizes.{packetCount}
 use denote.Ref.{now}
 use lib.ListN.{length}
 use Rattle.requests.proofs.LengthLaws.{Summed, begun, more, found, summed, none-over}
@@ -16,13 +17,13 @@ abbrev μ-loop : tie.MeasureT-loop
 μ-loop size lengths sum₀ i₀ sum i = length lengths - i
 
 returns : tie.Need-returns Inv-loop μ-loop
-returns c = let a = c .before .args in simp (if-so (by-ltb 64 (length (now (a .lengths)))) (omega arith))
+returns c = let a = c .before .args in simp (if-so (by-ltb packetCount (length (now (a .lengths)))) (omega arith))
 
 loop-holds : tie.Need-loop-holds Inv-loop μ-loop
 loop-holds c = (omega arith, begun _)
 
 returns-2 : tie.Need-returns-2 Inv-loop μ-loop
-returns-2 c = let l = c .before .before .before .loop in simp (if-not (by-ltb 64 (length (now (c .before .before .before .before .before .args .lengths)))) (λ z. omega arith), found (now (c .before .before .before .before .before .args .lengths)) (l .i) (l .sum) (omega arith) (l .inv .1) (omega arith))
+returns-2 c = let l = c .before .before .before .loop in simp (if-not (by-ltb packetCount (length (now (c .before .before .before .before .before .args .lengths)))) (λ z. omega arith), found (now (c .before .before .before .before .before .args .lengths)) (l .i) (l .sum) (omega arith) (l .inv .1) (omega arith))
 
 add-sum : tie.Need-add-sum Inv-loop μ-loop
 add-sum c = let l = c .before .before .before .loop in let w = l .inv .1 .within in omega arith
@@ -35,7 +36,7 @@ returns-3 c =
     let l = c .before .loop in
     let end : length (now (c .before .before .before .args .lengths)) ≤ l .i = omega arith in
     simp (
-      if-not (by-ltb 64 (length (now (c .before .before .before .args .lengths)))) (λ z. omega arith),
+      if-not (by-ltb packetCount (length (now (c .before .before .before .args .lengths)))) (λ z. omega arith),
       none-over (now (c .before .before .before .args .lengths)) (l .i) (l .sum) end (l .inv .1),
       ← summed (now (c .before .before .before .args .lengths)) (l .i) (l .sum) end (l .inv .1),
     )

@@ -25,7 +25,9 @@ returns-2 c =
 
 returns-3 : tie.Need-returns-3
 unfolding countedAt packetAt
-returns-3 c = rw (lt-ltb _ _ (c .before .before .before .before .if1 .left)) (ap (λ (p : Packet). p .actual) (c .before .packet-of .ensures))
+returns-3 c =
+    let at-if1 = c .before .before .before .before in
+    rw (lt-ltb _ _ (at-if1 .if1 .left)) (ap (λ (p : Packet). p .actual) (c .before .packet-of .ensures))
 
 pub counted-spec : {M : Type 1} → statement M
 counted-spec =

@@ -7,7 +7,9 @@ use Rattle.answers.proofs.put_command.Tie as tie
 
 returns : tie.Need-returns
 unfolding commandLine
-returns c = then _ _ _ (c .before .before .before .before .before .before .put-text .ensures) (c .before .before .put-words .ensures)
+returns c =
+    let at-put-text = c .before .before .before .before .before .before in
+    then _ _ _ (at-put-text .put-text .ensures) (c .before .before .put-words .ensures)
 
 pub put-command-spec : {M : Type 1} → statement M
 put-command-spec =

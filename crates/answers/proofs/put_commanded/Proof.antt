@@ -6,11 +6,15 @@ use Rattle.answers.proofs.put_commanded.Tie as tie
 
 returns : tie.Need-returns
 unfolding commandedLine
-returns c = rw (c .before .before .before .before .before .answer .given .1) (c .before .before .put-command .ensures)
+returns c =
+    let at-answer = c .before .before .before .before .before in
+    rw (at-answer .answer .given .1) (c .before .before .put-command .ensures)
 
 returns-2 : tie.Need-returns-2
 unfolding commandedLine
-returns-2 c = rw (c .before .before .before .before .before .answer2 .given .1) (c .before .before .put-no .ensures)
+returns-2 c =
+    let at-answer2 = c .before .before .before .before .before in
+    rw (at-answer2 .answer2 .given .1) (c .before .before .put-no .ensures)
 
 pub put-commanded-spec : {M : Type 1} → statement M
 put-commanded-spec =

@@ -6,11 +6,15 @@ use Rattle.answers.proofs.put_outcome.Tie as tie
 
 returns : tie.Need-returns
 unfolding outcomeLine
-returns c = rw (c .before .before .before .before .enum-told .given .1) (c .before .before .put-name .ensures)
+returns c =
+    let at-enum-told = c .before .before .before .before in
+    rw (at-enum-told .enum-told .given .1) (c .before .before .put-name .ensures)
 
 returns-2 : tie.Need-returns-2
 unfolding outcomeLine
-returns-2 c = rw (c .before .before .before .before .before .answer .given .1) (c .before .before .put-no .ensures)
+returns-2 c =
+    let at-answer = c .before .before .before .before .before in
+    rw (at-answer .answer .given .1) (c .before .before .put-no .ensures)
 
 pub put-outcome-spec : {M : Type 1} → statement M
 put-outcome-spec =

@@ -7,15 +7,22 @@ use Rattle.answers.proofs.put_resetting.Tie as tie
 
 returns : tie.Need-returns
 unfolding resettingLines
-returns c = rw (c .before .before .before .before .before .enum-told .given .1) (c .before .before .put-name .ensures)
+returns c =
+    let at-enum-told = c .before .before .before .before .before in
+    rw (at-enum-told .enum-told .given .1) (c .before .before .put-name .ensures)
 
 returns-2 : tie.Need-returns-2
 unfolding resettingLines
-returns-2 c = rw (c .before .before .before .before .before .before .before .before .before .answer .given .1) (then _ _ _ (c .before .before .before .before .before .before .put-command .ensures) (c .before .before .put-command2 .ensures))
+returns-2 c =
+    let at-put-command = c .before .before .before .before .before .before in
+    let at-answer = at-put-command .before .before .before in
+    rw (at-answer .answer .given .1) (then _ _ _ (at-put-command .put-command .ensures) (c .before .before .put-command2 .ensures))
 
 returns-3 : tie.Need-returns-3
 unfolding resettingLines
-returns-3 c = rw (c .before .before .before .before .before .answer2 .given .1) (c .before .before .put-no .ensures)
+returns-3 c =
+    let at-answer2 = c .before .before .before .before .before in
+    rw (at-answer2 .answer2 .given .1) (c .before .before .put-no .ensures)
 
 pub put-resetting-spec : {M : Type 1} → statement M
 put-resetting-spec =

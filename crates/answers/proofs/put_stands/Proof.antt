@@ -7,7 +7,11 @@ use Rattle.answers.proofs.put_stands.Tie as tie
 
 returns : tie.Need-returns
 unfolding standsLine
-returns c = then _ _ _ (c .before .before .before .before .before .before .before .before .before .before .before .before .before .before .put-text .ensures) (then _ _ _ (c .before .before .before .before .before .before .before .before .before .before .put-decimal .ensures) (then _ _ _ (c .before .before .before .before .before .before .put-flag .ensures) (c .before .before .put-end .ensures)))
+returns c =
+    let at-put-flag = c .before .before .before .before .before .before in
+    let at-put-decimal = at-put-flag .before .before .before .before in
+    let at-put-text = at-put-decimal .before .before .before .before in
+    then _ _ _ (at-put-text .put-text .ensures) (then _ _ _ (at-put-decimal .put-decimal .ensures) (then _ _ _ (at-put-flag .put-flag .ensures) (c .before .before .put-end .ensures)))
 
 pub put-stands-spec : {M : Type 1} → statement M
 put-stands-spec =

@@ -6,11 +6,15 @@ use Rattle.answers.proofs.put_submitted.Tie as tie
 
 returns : tie.Need-returns
 unfolding submittedLine
-returns c = rw (c .before .before .before .before .before .answer .given .1) (c .before .before .put-bell .ensures)
+returns c =
+    let at-answer = c .before .before .before .before .before in
+    rw (at-answer .answer .given .1) (c .before .before .put-bell .ensures)
 
 returns-2 : tie.Need-returns-2
 unfolding submittedLine
-returns-2 c = rw (c .before .before .before .before .before .answer2 .given .1) (c .before .before .put-no .ensures)
+returns-2 c =
+    let at-answer2 = c .before .before .before .before .before in
+    rw (at-answer2 .answer2 .given .1) (c .before .before .put-no .ensures)
 
 pub put-submitted-spec : {M : Type 1} → statement M
 put-submitted-spec =

@@ -11,7 +11,9 @@ less-one-requires c κs = c .up .ensures .1 (omega arith)
 returns : tie.Need-returns
 unfolding burstsOf
 returns c =
-    simp (c .before .before .less-one .ensures, c .less-one2 .ensures, c .before .before .before .up .ensures .0, c .before .last-of .ensures .0, c .before .before .before .before .packets .ensures .0)
+    let at-up = c .before .before .before in
+    let at-packets = at-up .before in
+    simp (c .before .before .less-one .ensures, c .less-one2 .ensures, at-up .up .ensures .0, c .before .last-of .ensures .0, at-packets .packets .ensures .0)
 
 pub bursts-of-spec : {M : Type 1} → statement M
 bursts-of-spec =

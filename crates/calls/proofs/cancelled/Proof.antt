@@ -7,13 +7,17 @@ use Rattle.calls.proofs.cancelled.Statement.{statement}
 use Rattle.calls.proofs.cancelled.Tie as tie
 
 same-length : tie.Need-same-length
-same-length c = c .before .before .before .before .before .before .cancel-request .kept .1 .0
+same-length c =
+    let at-cancel-request = c .before .before .before .before .before .before in
+    at-cancel-request .cancel-request .kept .1 .0
 
 returns : tie.Need-returns
 unfolding cancelled
 returns c =
-    let a = c .before .before .before .before .before .before .before .before .before .before .args in
-    ap (λ (q : Page). (turn (a .e) q, c .before .before .before .before .before .before .cancel-request .last .1 .0, q .1)) (c .before .before .put-cut .ensures) ∙ ap (cancelledBy (a .e) (a .id) (a .at, now (a .out))) (c .before .before .before .before .before .before .cancel-request .ensures)
+    let at-cancel-request = c .before .before .before .before .before .before in
+    let at-start = at-cancel-request .before .before .before .before in
+    let a = at-start .args in
+    ap (λ (q : Page). (turn (a .e) q, at-cancel-request .cancel-request .last .1 .0, q .1)) (c .before .before .put-cut .ensures) ∙ ap (cancelledBy (a .e) (a .id) (a .at, now (a .out))) (at-cancel-request .cancel-request .ensures)
 
 pub cancelled-spec : {M : Type 1} → statement M
 cancelled-spec =

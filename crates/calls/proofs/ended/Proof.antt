@@ -10,8 +10,11 @@ use Rattle.calls.proofs.ended.Tie as tie
 returns : tie.Need-returns
 unfolding ended
 returns c =
-    let a = c .before .before .before .before .before .before .before .before .args in
-    ap (λ (q : Page). told (c .before .before .before .before .before .before .end-reset .result .endpoint) q) (c .before .before .before .put-outcome .ensures) ∙ ap (changedBy endedText (a .at, now (a .out))) (c .before .before .before .before .before .before .end-reset .ensures)
+    let at-put-outcome = c .before .before .before in
+    let at-end-reset = at-put-outcome .before .before .before in
+    let at-start = at-end-reset .before .before in
+    let a = at-start .args in
+    ap (λ (q : Page). told (at-end-reset .end-reset .result .endpoint) q) (at-put-outcome .put-outcome .ensures) ∙ ap (changedBy endedText (a .at, now (a .out))) (at-end-reset .end-reset .ensures)
 
 pub ended-spec : {M : Type 1} → statement M
 ended-spec =

@@ -7,14 +7,19 @@ use Rattle.calls.proofs.handed.Statement.{statement}
 use Rattle.calls.proofs.handed.Tie as tie
 
 same-length : tie.Need-same-length
-same-length c = c .before .before .before .before .before .before .hand-over .kept .1 .0
+same-length c =
+    let at-hand-over = c .before .before .before .before .before .before in
+    at-hand-over .hand-over .kept .1 .0
 
 returns : tie.Need-returns
 unfolding handed
 returns c =
-    let a = c .before .before .before .before .before .before .before .before .before .before .before .before .args in
-    rw (← c .before .before .before .before .before .before .before .before .event-of .ensures)
-    (ap (λ (q : Page). (turn (a .e) q, c .before .before .before .before .before .before .hand-over .last .1 .0, q .1)) (c .before .before .put-taken .ensures) ∙ ap (handedBy (a .e) (a .at, now (a .out))) (c .before .before .before .before .before .before .hand-over .ensures))
+    let at-hand-over = c .before .before .before .before .before .before in
+    let at-event-of = at-hand-over .before .before in
+    let at-start = at-event-of .before .before .before .before in
+    let a = at-start .args in
+    rw (← at-event-of .event-of .ensures)
+    (ap (λ (q : Page). (turn (a .e) q, at-hand-over .hand-over .last .1 .0, q .1)) (c .before .before .put-taken .ensures) ∙ ap (handedBy (a .e) (a .at, now (a .out))) (at-hand-over .hand-over .ensures))
 
 pub handed-spec : {M : Type 1} → statement M
 handed-spec =

@@ -12,8 +12,10 @@ use Rattle.calls.proofs.pointed.Tie as tie
 returns : tie.Need-returns
 unfolding pointed
 returns c =
-    let a = c .before .before .before .before .before .before .args in
-    ap (λ (q : Page). told (a .e) q) (c .before .before .put-pointed .ensures) ∙ ap (λ (x : Pointed). told (a .e) (putAll (a .at, now (a .out)) (pointedLine x))) (c .before .before .before .before .enqueue-pointer .ensures)
+    let at-enqueue-pointer = c .before .before .before .before in
+    let at-start = at-enqueue-pointer .before .before in
+    let a = at-start .args in
+    ap (λ (q : Page). told (a .e) q) (c .before .before .put-pointed .ensures) ∙ ap (λ (x : Pointed). told (a .e) (putAll (a .at, now (a .out)) (pointedLine x))) (at-enqueue-pointer .enqueue-pointer .ensures)
 
 pub pointed-spec : {M : Type 1} → statement M
 pointed-spec =

@@ -10,8 +10,11 @@ use Rattle.calls.proofs.reset.Tie as tie
 returns : tie.Need-returns
 unfolding reset
 returns c =
-    let a = c .before .before .before .before .before .before .before .before .args in
-    ap (λ (q : Page). told (c .before .before .before .before .before .begin-reset .result .endpoint) q) (c .before .before .before .put-resetting .ensures) ∙ ap (resetBy (a .at, now (a .out))) (c .before .before .before .before .before .begin-reset .ensures)
+    let at-put-resetting = c .before .before .before in
+    let at-begin-reset = at-put-resetting .before .before in
+    let at-start = at-begin-reset .before .before .before in
+    let a = at-start .args in
+    ap (λ (q : Page). told (at-begin-reset .begin-reset .result .endpoint) q) (at-put-resetting .put-resetting .ensures) ∙ ap (resetBy (a .at, now (a .out))) (at-begin-reset .begin-reset .ensures)
 
 pub reset-spec : {M : Type 1} → statement M
 reset-spec =

@@ -12,8 +12,10 @@ use Rattle.calls.proofs.resumed.Tie as tie
 returns : tie.Need-returns
 unfolding resumed
 returns c =
-    let a = c .before .before .before .before .before .before .args in
-    ap (λ (q : Page). told (a .e) q) (c .before .before .put-commanded .ensures) ∙ ap (λ (x : Command). told (a .e) (putAll (a .at, now (a .out)) (commandedLine x))) (c .before .before .before .before .resume-words .ensures)
+    let at-resume-words = c .before .before .before .before in
+    let at-start = at-resume-words .before .before in
+    let a = at-start .args in
+    ap (λ (q : Page). told (a .e) q) (c .before .before .put-commanded .ensures) ∙ ap (λ (x : Command). told (a .e) (putAll (a .at, now (a .out)) (commandedLine x))) (at-resume-words .resume-words .ensures)
 
 pub resumed-spec : {M : Type 1} → statement M
 resumed-spec =

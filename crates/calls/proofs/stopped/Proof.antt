@@ -12,8 +12,10 @@ use Rattle.calls.proofs.stopped.Tie as tie
 returns : tie.Need-returns
 unfolding stopped
 returns c =
-    let a = c .before .before .before .before .before .before .args in
-    ap (λ (q : Page). told (a .e) q) (c .before .before .put-commanded .ensures) ∙ ap (λ (x : Command). told (a .e) (putAll (a .at, now (a .out)) (commandedLine x))) (c .before .before .before .before .stop-words .ensures)
+    let at-stop-words = c .before .before .before .before in
+    let at-start = at-stop-words .before .before in
+    let a = at-start .args in
+    ap (λ (q : Page). told (a .e) q) (c .before .before .put-commanded .ensures) ∙ ap (λ (x : Command). told (a .e) (putAll (a .at, now (a .out)) (commandedLine x))) (at-stop-words .stop-words .ensures)
 
 pub stopped-spec : {M : Type 1} → statement M
 stopped-spec =

@@ -21,13 +21,22 @@ abbrev μ-loop : tie.MeasureT-loop
 μ-loop most ring₀ finished₀ records packets out₀ at next₀ end₀ left₀ ring finished out next end left = left
 
 same-length : tie.Need-same-length Inv-loop μ-loop
-same-length c = c .before .before .before .before .before .before .before .before .before .stored .kept .1 .0 ∙ c .before .before .before .before .before .before .before .before .before .before .before .before .before .before .loop .inv .0
+same-length c =
+    let at-stored = c .before .before .before .before .before .before .before .before .before in
+    let at-loop = at-stored .before .before .before .before .before in
+    at-stored .stored .kept .1 .0 ∙ at-loop .loop .inv .0
 
 same-length-2 : tie.Need-same-length-2 Inv-loop μ-loop
-same-length-2 c = c .before .before .before .before .before .before .before .before .before .stored .kept .1 .1 .0 ∙ c .before .before .before .before .before .before .before .before .before .before .before .before .before .before .loop .inv .1
+same-length-2 c =
+    let at-stored = c .before .before .before .before .before .before .before .before .before in
+    let at-loop = at-stored .before .before .before .before .before in
+    at-stored .stored .kept .1 .1 .0 ∙ at-loop .loop .inv .1
 
 same-length-3 : tie.Need-same-length-3 Inv-loop μ-loop
-same-length-3 c = c .before .before .before .before .before .before .before .before .before .stored .kept .1 .1 .1 .1 .1 .0 ∙ c .before .before .before .before .before .before .before .before .before .before .before .before .before .before .loop .inv .2
+same-length-3 c =
+    let at-stored = c .before .before .before .before .before .before .before .before .before in
+    let at-loop = at-stored .before .before .before .before .before in
+    at-stored .stored .kept .1 .1 .1 .1 .1 .0 ∙ at-loop .loop .inv .2
 
 returns : tie.Need-returns Inv-loop μ-loop
 returns c =

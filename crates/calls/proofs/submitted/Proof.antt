@@ -7,23 +7,34 @@ use Rattle.calls.proofs.submitted.Statement.{statement}
 use Rattle.calls.proofs.submitted.Tie as tie
 
 same-length : tie.Need-same-length
-same-length c = c .before .before .before .before .before .before .before .before .before .before .before .before .before .submit-request .kept .1 .0
+same-length c =
+    let at-submit-request = c .before .before .before .before .before .before .before .before .before .before .before .before .before in
+    at-submit-request .submit-request .kept .1 .0
 
 same-length-2 : tie.Need-same-length-2
-same-length-2 c = c .before .before .before .before .before .before .before .before .before .before .before .before .before .submit-request .kept .1 .1 .0
+same-length-2 c =
+    let at-submit-request = c .before .before .before .before .before .before .before .before .before .before .before .before .before in
+    at-submit-request .submit-request .kept .1 .1 .0
 
 same-length-3 : tie.Need-same-length-3
-same-length-3 c = c .before .before .before .before .before .before .before .before .before .before .before .before .before .submit-request .kept .1 .1 .1 .0
+same-length-3 c =
+    let at-submit-request = c .before .before .before .before .before .before .before .before .before .before .before .before .before in
+    at-submit-request .submit-request .kept .1 .1 .1 .0
 
 same-length-4 : tie.Need-same-length-4
-same-length-4 c = c .before .before .before .before .before .before .before .before .before .before .before .before .before .submit-request .kept .1 .1 .1 .1 .0
+same-length-4 c =
+    let at-submit-request = c .before .before .before .before .before .before .before .before .before .before .before .before .before in
+    at-submit-request .submit-request .kept .1 .1 .1 .1 .0
 
 returns : tie.Need-returns
 unfolding submitted
 returns c =
-    let a = c .before .before .before .before .before .before .before .before .before .before .before .before .before .before .before .before .before .before .before .before .before .before .before .before .args in
-    let s = c .before .before .before .before .before .before .before .before .before .before .before .before .before .submit-request in
-    ap (λ (q : Page). (turn (s .result .endpoint) q, s .last .1 .0, s .last .1 .1 .0, s .last .1 .1 .1 .0, s .last .1 .1 .1 .1 .0, q .1)) (c .before .before .before .put-submitted .ensures) ∙ ap (submittedBy (a .at, now (a .out))) (s .ensures)
+    let at-put-submitted = c .before .before .before in
+    let at-submit-request = at-put-submitted .before .before .before .before .before .before .before .before .before .before in
+    let at-start = at-submit-request .before .before .before .before .before .before .before .before .before .before .before in
+    let a = at-start .args in
+    let s = at-submit-request .submit-request in
+    ap (λ (q : Page). (turn (s .result .endpoint) q, s .last .1 .0, s .last .1 .1 .0, s .last .1 .1 .1 .0, s .last .1 .1 .1 .1 .0, q .1)) (at-put-submitted .put-submitted .ensures) ∙ ap (submittedBy (a .at, now (a .out))) (s .ensures)
 
 pub submitted-spec : {M : Type 1} → statement M
 submitted-spec =

@@ -11,11 +11,16 @@ returns c = simp (failed (c .before .limits-hold .ensures) (c .if1 .taken))
 
 returns-2 : tie.Need-returns-2
 unfolding fits
-returns-2 c = simp (passed (c .before .before .before .limits-hold .ensures) (c .before .before .if1 .left), failed (c .before .places-fit .ensures) (c .if2 .taken))
+returns-2 c =
+    let at-limits-hold = c .before .before .before in
+    simp (passed (at-limits-hold .limits-hold .ensures) (c .before .before .if1 .left), failed (c .before .places-fit .ensures) (c .if2 .taken))
 
 returns-3 : tie.Need-returns-3
 unfolding fits
-returns-3 c = simp (passed (c .before .before .before .before .limits-hold .ensures) (c .before .before .before .if1 .left), passed (c .before .before .places-fit .ensures) (c .before .if2 .left))
+returns-3 c =
+    let at-if1 = c .before .before .before in
+    let at-limits-hold = at-if1 .before in
+    simp (passed (at-limits-hold .limits-hold .ensures) (at-if1 .if1 .left), passed (c .before .before .places-fit .ensures) (c .before .if2 .left))
 
 pub fits-spec : {M : Type 1} → statement M
 fits-spec =

@@ -21,7 +21,9 @@ strays-requires c κs = let f = fit (c .before .before .before .before .args .e)
 
 returns-3 : tie.Need-returns-3
 unfolding fitsWith
-returns-3 c = simp (passed (c .before .before .before .fits2 .ensures) (c .before .before .if1 .left), eq-eqb _ _ (c .before .if2 .left), c .strays .ensures)
+returns-3 c =
+    let at-fits2 = c .before .before .before in
+    simp (passed (at-fits2 .fits2 .ensures) (c .before .before .if1 .left), eq-eqb _ _ (c .before .if2 .left), c .strays .ensures)
 
 pub fits-with-spec : {M : Type 1} → statement M
 fits-with-spec = tie.close (tie.spec (λ c κs. search needs) returns returns-2 strays-requires returns-3)

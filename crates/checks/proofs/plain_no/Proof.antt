@@ -8,7 +8,9 @@ use Rattle.checks.proofs.plain_no.Tie as tie
 
 returns : tie.Need-returns
 unfolding plainNo plainTests
-returns c = simp (c .earlier2 .ensures, c .before .earlier .ensures, c .before .before .fits2 .ensures) (folded (plainTests (c .before .before .before .args .e)) refl)
+returns c =
+    let at-start = c .before .before .before in
+    simp (c .earlier2 .ensures, c .before .earlier .ensures, c .before .before .fits2 .ensures) (folded (plainTests (at-start .args .e)) refl)
 
 pub plain-no-spec : {M : Type 1} → statement M
 plain-no-spec = tie.close (tie.spec (λ c κs. search needs) (λ c κs. search needs) (λ c κs. search needs) returns)

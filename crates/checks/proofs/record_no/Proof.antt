@@ -9,7 +9,9 @@ use Rattle.checks.proofs.record_no.Tie as tie
 
 returns : tie.Need-returns
 unfolding recordNo recordTests
-returns c = simp (c .earlier2 .ensures, c .before .earlier .ensures, c .before .before .fits-with .ensures) (folded (recordTests (c .before .before .before .before .args .e) (now (c .before .before .before .before .args .records))) refl)
+returns c =
+    let at-start = c .before .before .before .before in
+    simp (c .earlier2 .ensures, c .before .earlier .ensures, c .before .before .fits-with .ensures) (folded (recordTests (at-start .args .e) (now (at-start .args .records))) refl)
 
 pub record-no-spec : {M : Type 1} → statement M
 record-no-spec =

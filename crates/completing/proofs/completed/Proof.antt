@@ -6,7 +6,9 @@ use Rattle.completing.proofs.completed.Tie as tie
 
 returns : tie.Need-returns
 unfolding complete
-returns c = simp (c .left .ensures, c .before .halts .ensures, c .before .before .answer-of .ensures, c .before .before .before .which .ensures)
+returns c =
+    let at-which = c .before .before .before in
+    simp (c .left .ensures, c .before .halts .ensures, c .before .before .answer-of .ensures, at-which .which .ensures)
 
 pub completed-spec : {M : Type 1} → statement M
 completed-spec =

@@ -10,8 +10,10 @@ use Rattle.completing.proofs.which.Tie as tie
 returns : tie.Need-returns
 unfolding completeTests
 returns c =
-    let a = c .before .before .before .before .args in
-    simp (c .earlier3 .ensures, c .before .earlier2 .ensures, c .before .before .is-mismatched .ensures, c .before .before .before .earlier .ensures)
+    let at-earlier = c .before .before .before in
+    let at-start = at-earlier .before in
+    let a = at-start .args in
+    simp (c .earlier3 .ensures, c .before .earlier2 .ensures, c .before .before .is-mismatched .ensures, at-earlier .earlier .ensures)
     (folded (completeTests (a .v) (a .fails)) refl)
 
 pub which-spec : {M : Type 1} → statement M

@@ -21,7 +21,9 @@ mark-requires c κs = cancel-sized _ _ _ (none (c .before))
 
 returns-2 : tie.Need-returns-2
 unfolding cancel
-returns-2 c = simp (none (c .before .before .before .before), c .before .before .mark .ensures)
+returns-2 c =
+    let at-before = c .before .before .before in
+    simp (none (at-before .before), c .before .before .mark .ensures)
 
 pub cancel-request-spec : {M : Type 1} → statement M
 cancel-request-spec =

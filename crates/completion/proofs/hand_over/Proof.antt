@@ -26,7 +26,9 @@ set-finished-requires c κs =
 
 returns-2 : tie.Need-returns-2
 unfolding handOver
-returns-2 c = simp (none (c .before .before .before .before .before), c .before .before .set-finished .ensures, c .before .before .before .before .place-for .ensures)
+returns-2 c =
+    let at-before = c .before .before .before .before in
+    simp (none (at-before .before), c .before .before .set-finished .ensures, at-before .place-for .ensures)
 
 pub hand-over-spec : {M : Type 1} → statement M
 hand-over-spec =

@@ -14,12 +14,17 @@ set-word-requires c κs =
     search needs
 
 returns : tie.Need-returns
-returns c = let a = c .before .before .before .before .before .args in ap (marked (now (a .records))) (sym (c .enum-told .given .1) ∙ c .before .before .find-id .ensures)
+returns c =
+    let at-start = c .before .before .before .before .before in
+    let a = at-start .args in ap (marked (now (a .records))) (sym (c .enum-told .given .1) ∙ c .before .before .find-id .ensures)
 
 returns-2 : tie.Need-returns-2
 returns-2 c =
-    let a = c .before .before .before .before .before .before .before .before .before .before .args in
-    c .before .before .set-word .ensures ∙ ap (marked (now (a .records))) (sym (c .before .before .before .before .before .found .given .1) ∙ c .before .before .before .before .before .before .before .find-id .ensures)
+    let at-found = c .before .before .before .before .before in
+    let at-find-id = at-found .before .before in
+    let at-start = at-find-id .before .before .before in
+    let a = at-start .args in
+    c .before .before .set-word .ensures ∙ ap (marked (now (a .records))) (sym (at-found .found .given .1) ∙ at-find-id .find-id .ensures)
 
 pub mark-spec : {M : Type 1} → statement M
 mark-spec =

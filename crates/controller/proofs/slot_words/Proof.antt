@@ -23,7 +23,9 @@ returns c =
 
 returns-2 : tie.Need-returns-2
 unfolding wordsAt
-returns-2 c = simp (c .before .before .before .word-at .ensures, c .before .before .word-at2 .ensures, c .before .word-at3 .ensures, c .word-at4 .ensures)
+returns-2 c =
+    let at-word-at = c .before .before .before in
+    simp (at-word-at .word-at .ensures, c .before .before .word-at2 .ensures, c .before .word-at3 .ensures, c .word-at4 .ensures)
 
 pub slot-words-spec : {M : Type 1} → statement M
 slot-words-spec =

@@ -13,13 +13,21 @@ told : (c : Consumer) {r s t : Step} → r ≡ s → r ≡ t → _≡_ {A = Step
 told c e d = cc
 
 returns : tie.Need-returns
-returns c = told (c .before .before .before .args .c) (c .before .before .does .ensures) (c .enum-told .given .1)
+returns c =
+    let at-start = c .before .before .before in
+    told (at-start .args .c) (c .before .before .does .ensures) (c .enum-told .given .1)
 
 returns-2 : tie.Need-returns-2
-returns-2 c = told (c .before .before .before .before .args .c) (c .before .before .before .does .ensures) (c .before .enum-told2 .given .1)
+returns-2 c =
+    let at-does = c .before .before .before in
+    let at-start = at-does .before in
+    told (at-start .args .c) (at-does .does .ensures) (c .before .enum-told2 .given .1)
 
 returns-3 : tie.Need-returns-3
-returns-3 c = told (c .before .before .before .before .args .c) (c .before .before .before .does .ensures) (c .before .enum-told3 .given .1)
+returns-3 c =
+    let at-does = c .before .before .before in
+    let at-start = at-does .before in
+    told (at-start .args .c) (at-does .does .ensures) (c .before .enum-told3 .given .1)
 
 pub step-at-spec : {M : Type 1} → statement M
 step-at-spec =

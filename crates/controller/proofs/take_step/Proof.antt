@@ -8,7 +8,9 @@ use Rattle.controller.proofs.take_step.Tie as tie
 
 returns : tie.Need-returns
 unfolding step
-returns c = c .step-at .ensures ∙ ap (λ (w : Words). stepAt w (c .before .before .before .args .c)) (c .before .slot-words .ensures)
+returns c =
+    let at-start = c .before .before .before in
+    c .step-at .ensures ∙ ap (λ (w : Words). stepAt w (at-start .args .c)) (c .before .slot-words .ensures)
 
 pub take-step-spec : {M : Type 1} → statement M
 take-step-spec = tie.close (tie.spec (λ c κs. search needs) (λ c κs. search needs) returns)

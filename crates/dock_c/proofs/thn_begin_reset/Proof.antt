@@ -18,13 +18,19 @@ returns-2 c =
 returns-3 : tie.Need-returns-3
 unfolding resetBegun
 returns-3 c =
+    let at-settle-told = c .before .before .before .before in
+    let at-resetting = at-settle-told .before in
+    let at-begin-reset = at-resetting .before .before .before .before in
+    let at-load = at-begin-reset .before in
+    let at-if2 = at-load .before .before in
+    let at-if1 = at-if2 .before in
     simp (
-      eq-eqb _ _ (c .before .before .before .before .before .before .before .before .before .before .before .before .before .if1 .left),
-      eq-eqb _ _ (c .before .before .before .before .before .before .before .before .before .before .before .before .if2 .left),
-      ← c .before .before .before .before .before .before .before .before .before .before .load .ensures,
-      ← c .before .before .before .before .before .before .before .before .before .begin-reset .ensures,
-      ← c .before .before .before .before .before .resetting .ensures,
-      ← c .before .before .before .before .settle-told .ensures,
+      eq-eqb _ _ (at-if1 .if1 .left),
+      eq-eqb _ _ (at-if2 .if2 .left),
+      ← at-load .load .ensures,
+      ← at-begin-reset .begin-reset .ensures,
+      ← at-resetting .resetting .ensures,
+      ← at-settle-told .settle-told .ensures,
     )
 
 pub thn-begin-reset-spec : {M : Type 1} → statement M

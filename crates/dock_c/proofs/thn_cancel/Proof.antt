@@ -13,10 +13,13 @@ returns c =
 returns-2 : tie.Need-returns-2
 unfolding cancelled
 returns-2 c =
+    let at-cancel-request = c .before .before .before in
+    let at-load = at-cancel-request .before .before in
+    let at-if1 = at-load .before in
     simp (
-      eq-eqb _ _ (c .before .before .before .before .before .before .if1 .left),
-      ← c .before .before .before .before .before .load .ensures,
-      ← c .before .before .before .cancel-request .ensures,
+      eq-eqb _ _ (at-if1 .if1 .left),
+      ← at-load .load .ensures,
+      ← at-cancel-request .cancel-request .ensures,
       ← c .outcome .ensures,
     )
 

@@ -13,10 +13,13 @@ returns c =
 returns-2 : tie.Need-returns-2
 unfolding configured
 returns-2 c =
+    let at-configure-periodic = c .before .before .before .before in
+    let at-load = at-configure-periodic .before in
+    let at-if1 = at-load .before .before in
     simp (
-      eq-eqb _ _ (c .before .before .before .before .before .before .before .if1 .left),
-      ← c .before .before .before .before .before .load .ensures,
-      ← c .before .before .before .before .configure-periodic .ensures,
+      eq-eqb _ _ (at-if1 .if1 .left),
+      ← at-load .load .ensures,
+      ← at-configure-periodic .configure-periodic .ensures,
       ← c .before .before .settle .ensures,
     )
 

@@ -13,10 +13,13 @@ returns c =
 returns-2 : tie.Need-returns-2
 unfolding resetEnded
 returns-2 c =
+    let at-end-reset = c .before .before .before .before in
+    let at-load = at-end-reset .before in
+    let at-if1 = at-load .before .before in
     simp (
-      eq-eqb _ _ (c .before .before .before .before .before .before .before .if1 .left),
-      ← c .before .before .before .before .before .load .ensures,
-      ← c .before .before .before .before .end-reset .ensures,
+      eq-eqb _ _ (at-if1 .if1 .left),
+      ← at-load .load .ensures,
+      ← at-end-reset .end-reset .ensures,
       ← c .before .before .settle .ensures,
     )
 

@@ -18,12 +18,17 @@ returns-2 c =
 returns-3 : tie.Need-returns-3
 unfolding handedOver
 returns-3 c =
+    let at-taken = c .before .before .before in
+    let at-hand-over = at-taken .before .before .before .before in
+    let at-load = at-hand-over .before .before in
+    let at-if2 = at-load .before in
+    let at-if1 = at-if2 .before in
     simp (
-      eq-eqb _ _ (c .before .before .before .before .before .before .before .before .before .before .before .if1 .left),
-      eq-eqb _ _ (c .before .before .before .before .before .before .before .before .before .before .if2 .left),
-      ← c .before .before .before .before .before .before .before .before .before .load .ensures,
-      ← c .before .before .before .before .before .before .before .hand-over .ensures,
-      ← c .before .before .before .taken .ensures,
+      eq-eqb _ _ (at-if1 .if1 .left),
+      eq-eqb _ _ (at-if2 .if2 .left),
+      ← at-load .load .ensures,
+      ← at-hand-over .hand-over .ensures,
+      ← at-taken .taken .ensures,
       ← c .before .before .tell .ensures,
     )
 

@@ -13,9 +13,11 @@ returns c =
 returns-2 : tie.Need-returns-2
 unfolding made
 returns-2 c =
+    let at-make = c .before .before .before .before .before .before .before .before .before .before .before .before in
+    let at-if1 = at-make .before .before .before .before .before in
     simp (
-      eq-eqb _ _ (c .before .before .before .before .before .before .before .before .before .before .before .before .before .before .before .before .before .if1 .left),
-      ← c .before .before .before .before .before .before .before .before .before .before .before .before .make .ensures,
+      eq-eqb _ _ (at-if1 .if1 .left),
+      ← at-make .make .ensures,
       ← c .before .before .settle .ensures,
     )
 

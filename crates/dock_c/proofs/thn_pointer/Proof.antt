@@ -18,12 +18,17 @@ returns-2 c =
 returns-3 : tie.Need-returns-3
 unfolding pointed
 returns-3 c =
+    let at-pointed = c .before .before .before in
+    let at-enqueue-pointer = at-pointed .before in
+    let at-load = at-enqueue-pointer .before in
+    let at-if2 = at-load .before .before in
+    let at-if1 = at-if2 .before in
     simp (
-      eq-eqb _ _ (c .before .before .before .before .before .before .before .before .if1 .left),
-      eq-eqb _ _ (c .before .before .before .before .before .before .before .if2 .left),
-      ← c .before .before .before .before .before .load .ensures,
-      ← c .before .before .before .before .enqueue-pointer .ensures,
-      ← c .before .before .before .pointed .ensures,
+      eq-eqb _ _ (at-if1 .if1 .left),
+      eq-eqb _ _ (at-if2 .if2 .left),
+      ← at-load .load .ensures,
+      ← at-enqueue-pointer .enqueue-pointer .ensures,
+      ← at-pointed .pointed .ensures,
       ← c .before .before .tell .ensures,
     )
 

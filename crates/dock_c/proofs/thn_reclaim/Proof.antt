@@ -18,13 +18,19 @@ returns-2 c =
 returns-3 : tie.Need-returns-3
 unfolding reclaimed
 returns-3 c =
+    let at-settle-told = c .before .before .before .before in
+    let at-reclaimed = at-settle-told .before in
+    let at-reclaim-request = at-reclaimed .before .before .before .before .before .before .before .before in
+    let at-load = at-reclaim-request .before .before .before in
+    let at-if2 = at-load .before .before in
+    let at-if1 = at-if2 .before in
     simp (
-      eq-eqb _ _ (c .before .before .before .before .before .before .before .before .before .before .before .before .before .before .before .before .before .before .before .if1 .left),
-      eq-eqb _ _ (c .before .before .before .before .before .before .before .before .before .before .before .before .before .before .before .before .before .before .if2 .left),
-      ← c .before .before .before .before .before .before .before .before .before .before .before .before .before .before .before .before .load .ensures,
-      ← c .before .before .before .before .before .before .before .before .before .before .before .before .before .reclaim-request .ensures,
-      ← c .before .before .before .before .before .reclaimed .ensures,
-      ← c .before .before .before .before .settle-told .ensures,
+      eq-eqb _ _ (at-if1 .if1 .left),
+      eq-eqb _ _ (at-if2 .if2 .left),
+      ← at-load .load .ensures,
+      ← at-reclaim-request .reclaim-request .ensures,
+      ← at-reclaimed .reclaimed .ensures,
+      ← at-settle-told .settle-told .ensures,
     )
 
 pub thn-reclaim-spec : {M : Type 1} → statement M

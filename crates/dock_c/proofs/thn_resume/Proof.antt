@@ -18,12 +18,17 @@ returns-2 c =
 returns-3 : tie.Need-returns-3
 unfolding resumed
 returns-3 c =
+    let at-command = c .before .before .before in
+    let at-resume-words = at-command .before in
+    let at-load = at-resume-words .before in
+    let at-if2 = at-load .before .before in
+    let at-if1 = at-if2 .before in
     simp (
-      eq-eqb _ _ (c .before .before .before .before .before .before .before .before .if1 .left),
-      eq-eqb _ _ (c .before .before .before .before .before .before .before .if2 .left),
-      ← c .before .before .before .before .before .load .ensures,
-      ← c .before .before .before .before .resume-words .ensures,
-      ← c .before .before .before .command .ensures,
+      eq-eqb _ _ (at-if1 .if1 .left),
+      eq-eqb _ _ (at-if2 .if2 .left),
+      ← at-load .load .ensures,
+      ← at-resume-words .resume-words .ensures,
+      ← at-command .command .ensures,
       ← c .before .before .tell .ensures,
     )
 

@@ -18,17 +18,26 @@ returns-2 c =
     simp (eq-eqb _ _ (c .before .before .if1 .left), failed (c .before .is-request .ensures) (c .if2 .taken))
 
 request-of-requires : tie.Need-request-of-requires
-request-of-requires c κs = request-size _ (passed (c .before .before .before .before .before .is-request .ensures) (c .before .before .before .before .if2 .left))
+request-of-requires c κs =
+    let at-if2 = c .before .before .before .before in
+    let at-is-request = at-if2 .before in
+    request-size _ (passed (at-is-request .is-request .ensures) (at-if2 .if2 .left))
 
 returns-3 : tie.Need-returns-3
 unfolding started
 returns-3 c =
+    let at-start-request = c .before .before .before .before .before .before .before .before in
+    let at-request-of = at-start-request .before in
+    let at-load = at-request-of .before .before .before in
+    let at-if2 = at-load .before .before in
+    let at-is-request = at-if2 .before in
+    let at-if1 = at-is-request .before in
     simp (
-      eq-eqb _ _ (c .before .before .before .before .before .before .before .before .before .before .before .before .before .before .before .before .if1 .left),
-      passed (c .before .before .before .before .before .before .before .before .before .before .before .before .before .before .before .is-request .ensures) (c .before .before .before .before .before .before .before .before .before .before .before .before .before .before .if2 .left),
-      ← c .before .before .before .before .before .before .before .before .before .before .before .before .load .ensures,
-      ← c .before .before .before .before .before .before .before .before .before .request-of .ensures,
-      ← c .before .before .before .before .before .before .before .before .start-request .ensures,
+      eq-eqb _ _ (at-if1 .if1 .left),
+      passed (at-is-request .is-request .ensures) (at-if2 .if2 .left),
+      ← at-load .load .ensures,
+      ← at-request-of .request-of .ensures,
+      ← at-start-request .start-request .ensures,
       ← c .before .before .settle .ensures,
     )
 

@@ -18,13 +18,19 @@ returns-2 c =
 returns-3 : tie.Need-returns-3
 unfolding storedOne
 returns-3 c =
+    let at-settle-told = c .before .before .before .before in
+    let at-stored = at-settle-told .before in
+    let at-next-store = at-stored .before .before .before .before .before .before .before .before in
+    let at-load = at-next-store .before .before .before in
+    let at-if2 = at-load .before .before in
+    let at-if1 = at-if2 .before in
     simp (
-      eq-eqb _ _ (c .before .before .before .before .before .before .before .before .before .before .before .before .before .before .before .before .before .before .before .if1 .left),
-      eq-eqb _ _ (c .before .before .before .before .before .before .before .before .before .before .before .before .before .before .before .before .before .before .if2 .left),
-      ← c .before .before .before .before .before .before .before .before .before .before .before .before .before .before .before .before .load .ensures,
-      ← c .before .before .before .before .before .before .before .before .before .before .before .before .before .next-store .ensures,
-      ← c .before .before .before .before .before .stored .ensures,
-      ← c .before .before .before .before .settle-told .ensures,
+      eq-eqb _ _ (at-if1 .if1 .left),
+      eq-eqb _ _ (at-if2 .if2 .left),
+      ← at-load .load .ensures,
+      ← at-next-store .next-store .ensures,
+      ← at-stored .stored .ensures,
+      ← at-settle-told .settle-told .ensures,
     )
 
 pub thn-store-spec : {M : Type 1} → statement M

@@ -20,30 +20,46 @@ returns-2 c =
 returns-3 : tie.Need-returns-3
 unfolding submitted
 returns-3 c =
+    let at-if1 = c .before .before .before in
     simp (
-      eq-eqb _ _ (c .before .before .before .if1 .left),
+      eq-eqb _ _ (at-if1 .if1 .left),
       eq-eqb _ _ (c .before .before .if2 .left),
       failed (c .before .is-request .ensures) (c .if3 .taken),
     )
 
 request-of-requires : tie.Need-request-of-requires
-request-of-requires c κs = request-size _ (passed (c .before .before .before .before .before .before .before .is-request .ensures) (c .before .before .before .before .before .before .if3 .left))
+request-of-requires c κs =
+    let at-if3 = c .before .before .before .before .before .before in
+    let at-is-request = at-if3 .before in
+    request-size _ (passed (at-is-request .is-request .ensures) (at-if3 .if3 .left))
 
 settle-told-requires : tie.Need-settle-told-requires
-settle-told-requires c κs = (c .before .before .before .before .before .before .before .before .before .before .before .before .before .before .before .before .before .before .before .before .before .before .before .if1 .left, c .before .before .before .before .before .before .before .before .before .before .before .before .before .before .before .before .before .before .before .before .before .before .if2 .left)
+settle-told-requires c κs =
+    let at-if2 = c .before .before .before .before .before .before .before .before .before .before .before .before .before .before .before .before .before .before .before .before .before .before in
+    let at-if1 = at-if2 .before in
+    (at-if1 .if1 .left, at-if2 .if2 .left)
 
 returns-4 : tie.Need-returns-4
 unfolding submitted
 returns-4 c =
+    let at-settle-told = c .before .before .before .before in
+    let at-submitted = at-settle-told .before in
+    let at-submit-request = at-submitted .before .before .before .before .before .before .before .before .before .before .before .before in
+    let at-request-of = at-submit-request .before in
+    let at-load = at-request-of .before .before .before .before .before in
+    let at-if3 = at-load .before .before in
+    let at-is-request = at-if3 .before in
+    let at-if2 = at-is-request .before in
+    let at-if1 = at-if2 .before in
     simp (
-      eq-eqb _ _ (c .before .before .before .before .before .before .before .before .before .before .before .before .before .before .before .before .before .before .before .before .before .before .before .before .before .before .before .before .if1 .left),
-      eq-eqb _ _ (c .before .before .before .before .before .before .before .before .before .before .before .before .before .before .before .before .before .before .before .before .before .before .before .before .before .before .before .if2 .left),
-      passed (c .before .before .before .before .before .before .before .before .before .before .before .before .before .before .before .before .before .before .before .before .before .before .before .before .before .before .is-request .ensures) (c .before .before .before .before .before .before .before .before .before .before .before .before .before .before .before .before .before .before .before .before .before .before .before .before .before .if3 .left),
-      ← c .before .before .before .before .before .before .before .before .before .before .before .before .before .before .before .before .before .before .before .before .before .before .before .load .ensures,
-      ← c .before .before .before .before .before .before .before .before .before .before .before .before .before .before .before .before .before .before .request-of .ensures,
-      ← c .before .before .before .before .before .before .before .before .before .before .before .before .before .before .before .before .before .submit-request .ensures,
-      ← c .before .before .before .before .before .submitted .ensures,
-      ← c .before .before .before .before .settle-told .ensures,
+      eq-eqb _ _ (at-if1 .if1 .left),
+      eq-eqb _ _ (at-if2 .if2 .left),
+      passed (at-is-request .is-request .ensures) (at-if3 .if3 .left),
+      ← at-load .load .ensures,
+      ← at-request-of .request-of .ensures,
+      ← at-submit-request .submit-request .ensures,
+      ← at-submitted .submitted .ensures,
+      ← at-settle-told .settle-told .ensures,
     )
 
 pub thn-submit-spec : {M : Type 1} → statement M

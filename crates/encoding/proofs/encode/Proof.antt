@@ -10,8 +10,10 @@ use Rattle.encoding.proofs.encode.Tie as tie
 
 returns : tie.Need-returns
 returns c =
-    let a = c .before .before .before .before .before .before .args in
-    let e = c .before .before .before .words-of .ensures in
+    let at-words-of = c .before .before .before in
+    let at-start = at-words-of .before .before .before in
+    let a = at-start .args in
+    let e = at-words-of .words-of .ensures in
     c .before .before .put-words .ensures ∙ ap (λ (w : Words). filled 4 (now (a .part)) (listed w)) e
 
 pub encode-spec : {M : Type 1} → statement M

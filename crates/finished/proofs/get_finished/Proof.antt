@@ -12,7 +12,9 @@ returns c = simp (eq-eqb _ _ (c .if1 .taken))
 
 returns-2 : tie.Need-returns-2
 unfolding finishedAt wordsAt
-returns-2 c = simp (ne-eqb _ _ (c .before .before .before .if1 .left))
+returns-2 c =
+    let at-if1 = c .before .before .before in
+    simp (ne-eqb _ _ (at-if1 .if1 .left))
 
 pub get-finished-spec : {M : Type 1} → statement M
 get-finished-spec =

@@ -11,7 +11,9 @@ returns c = simp (ne-eqb _ _ (c .if1 .taken))
 
 returns-2 : tie.Need-returns-2
 unfolding fillPlace
-returns-2 c = simp (eq-eqb _ _ (c .before .before .before .before .if1 .left), c .before .before .put-place .ensures)
+returns-2 c =
+    let at-if1 = c .before .before .before .before in
+    simp (eq-eqb _ _ (at-if1 .if1 .left), c .before .before .put-place .ensures)
 
 pub set-finished-spec : {M : Type 1} → statement M
 set-finished-spec =

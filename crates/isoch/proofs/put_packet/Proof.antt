@@ -7,10 +7,13 @@ use Rattle.isoch.proofs.put_packet.Tie as tie
 
 returns : tie.Need-returns
 returns c =
-    let a = c .before .before .before .before .before .before .before .before .before .before .before .before .before .args in (
+    let at-put-trb = c .before .before .before .before .before .before in
+    let at-packet-trb = at-put-trb .before .before .before .before in
+    let at-start = at-packet-trb .before .before .before in
+    let a = at-start .args in (
       packet-is (a .shape) (a .s) (a .incoming) (a .size) (a .more) (a .pen) (now (a .ring)) (now (a .finished))
-          (c .before .before .before .before .before .before .before .before .before .before .before .before .before .pre .4) (c .before .before .before .before .before .before .before .before .before .before .packet-trb .ensures) (c .before .before .before .before .before .before .put-trb .ensures .0) (c .before .wrapping-add-u64 .ensures) (c .frame-after .ensures),
-      c .before .before .before .before .before .before .put-trb .ensures .1,
+          (at-start .pre .4) (at-packet-trb .packet-trb .ensures) (at-put-trb .put-trb .ensures .0) (c .before .wrapping-add-u64 .ensures) (c .frame-after .ensures),
+      at-put-trb .put-trb .ensures .1,
     )
 
 pub put-packet-spec : {M : Type 1} → statement M

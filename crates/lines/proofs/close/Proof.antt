@@ -14,8 +14,10 @@ returns c = simp (c .before .if1 .taken, c .close-word .ensures)
 returns-2 : tie.Need-returns-2
 unfolding close
 returns-2 c =
-    let a = c .before .before .before .before .before .before .args in
-    c .before .before .close-number .ensures ∙ sym (pick-not (closeWord (a .r), now (a .values)) (closeNumber (a .r) (now (a .values))) (c .before .before .before .before .if1 .left))
+    let at-if1 = c .before .before .before .before in
+    let at-start = at-if1 .before .before in
+    let a = at-start .args in
+    c .before .before .close-number .ensures ∙ sym (pick-not (closeWord (a .r), now (a .values)) (closeNumber (a .r) (now (a .values))) (at-if1 .if1 .left))
 
 pub close-spec : {M : Type 1} → statement M
 close-spec =

@@ -9,7 +9,11 @@ use Rattle.lines.proofs.digit.Tie as tie
 
 returns : tie.Need-returns
 unfolding digit
-returns c = rw (← c .before .before .before .before .before .base-of .ensures, ← c .before .before .before .before .digit-of .ensures .0, ← c .before .before .before .most-of .ensures, failed (c .before .before .fits2 .ensures) (c .before .if1 .taken)) (c .bad .ensures)
+returns c =
+    let at-most-of = c .before .before .before in
+    let at-digit-of = at-most-of .before in
+    let at-base-of = at-digit-of .before in
+    rw (← at-base-of .base-of .ensures, ← at-digit-of .digit-of .ensures .0, ← at-most-of .most-of .ensures, failed (c .before .before .fits2 .ensures) (c .before .if1 .taken)) (c .bad .ensures)
 
 mul-next : tie.Need-mul-next
 mul-next c =
@@ -23,7 +27,11 @@ add-next c =
 
 returns-2 : tie.Need-returns-2
 unfolding digit
-returns-2 c = rw (← c .before .before .before .before .before .base-of .ensures, ← c .before .before .before .before .digit-of .ensures .0, ← c .before .before .before .most-of .ensures, passed (c .before .before .fits2 .ensures) (c .before .if1 .left))
+returns-2 c =
+    let at-most-of = c .before .before .before in
+    let at-digit-of = at-most-of .before in
+    let at-base-of = at-digit-of .before in
+    rw (← at-base-of .base-of .ensures, ← at-digit-of .digit-of .ensures .0, ← at-most-of .most-of .ensures, passed (c .before .before .fits2 .ensures) (c .before .if1 .left))
 
 pub digit-spec : {M : Type 1} → statement M
 digit-spec =

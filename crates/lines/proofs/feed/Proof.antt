@@ -11,15 +11,23 @@ returns c = rw (c .if1 .taken)
 
 returns-2 : tie.Need-returns-2
 unfolding feed
-returns-2 c = simp (c .before .before .before .before .before .before .if1 .left, eq-eqb _ _ (c .before .before .before .before .before .if2 .taken), ← c .before .before .before .close .ensures, c .next-field .ensures)
+returns-2 c =
+    let at-close = c .before .before .before in
+    let at-if2 = at-close .before .before in
+    let at-if1 = at-if2 .before in
+    simp (at-if1 .if1 .left, eq-eqb _ _ (at-if2 .if2 .taken), ← at-close .close .ensures, c .next-field .ensures)
 
 returns-3 : tie.Need-returns-3
 unfolding feed
-returns-3 c = simp (c .before .before .before .if1 .left, ne-eqb _ _ (c .before .before .if2 .left), c .before .if3 .taken, c .letter .ensures)
+returns-3 c =
+    let at-if1 = c .before .before .before in
+    simp (at-if1 .if1 .left, ne-eqb _ _ (c .before .before .if2 .left), c .before .if3 .taken, c .letter .ensures)
 
 returns-4 : tie.Need-returns-4
 unfolding feed
-returns-4 c = simp (c .before .before .before .if1 .left, ne-eqb _ _ (c .before .before .if2 .left), c .before .if3 .left, c .digit .ensures)
+returns-4 c =
+    let at-if1 = c .before .before .before in
+    simp (at-if1 .if1 .left, ne-eqb _ _ (c .before .before .if2 .left), c .before .if3 .left, c .digit .ensures)
 
 pub feed-spec : {M : Type 1} → statement M
 feed-spec =

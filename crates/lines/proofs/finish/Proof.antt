@@ -11,11 +11,17 @@ returns c = rw (c .if1 .taken)
 
 returns-2 : tie.Need-returns-2
 unfolding finish
-returns-2 c = rw (c .before .before .before .before .before .before .if1 .left, ← c .before .before .before .before .close .ensures, sym (c .before .is-complete .ensures) ∙ c .if2 .taken)
+returns-2 c =
+    let at-close = c .before .before .before .before in
+    let at-if1 = at-close .before .before in
+    rw (at-if1 .if1 .left, ← at-close .close .ensures, sym (c .before .is-complete .ensures) ∙ c .if2 .taken)
 
 returns-3 : tie.Need-returns-3
 unfolding finish
-returns-3 c = simp (c .before .before .before .before .before .before .before .if1 .left, ← c .before .before .before .before .before .close .ensures, sym (c .before .before .is-complete .ensures) ∙ c .before .if2 .left, c .bad .ensures)
+returns-3 c =
+    let at-close = c .before .before .before .before .before in
+    let at-if1 = at-close .before .before in
+    simp (at-if1 .if1 .left, ← at-close .close .ensures, sym (c .before .before .is-complete .ensures) ∙ c .before .if2 .left, c .bad .ensures)
 
 pub finish-spec : {M : Type 1} → statement M
 finish-spec =

@@ -18,7 +18,8 @@ valued : (c : tie.After-value-of)
     let w : Words = c .before .before .before .f .given .0 .0 in
     worthOf (c .value-of .result) ≡ worth (codeOf w) (a .p .requested) (remainingOf w)
 valued c =
-    let a = c .before .before .before .before .before .args in
+    let at-start = c .before .before .before .before .before in
+    let a = at-start .args in
     c .value-of .ensures ∙ ap (λ (x : Event). worth (x .code) (a .p .requested) (x .remaining)) (c .before .event-of .ensures)
 
 returns : tie.Need-returns
@@ -27,21 +28,28 @@ returns c = simp (c .before .enum-told .given .1, c .pass .ensures)
 
 returns-2 : tie.Need-returns-2
 returns-2 c =
-    let a = c .before .before .before .before .before .before .before .before .before .args in
-    let w = c .before .before .before .before .before .before .before .f .given .0 .0 in
+    let at-before = c .before .before .before in
+    let at-event-of = at-before .before .before in
+    let at-f = at-event-of .before .before in
+    let at-start = at-f .before .before in
+    let a = at-start .args in
+    let w = at-f .f .given .0 .0 in
     let n = c .before .before .value .given .0 .0 in
     c .credit .ensures
-    ∙ ap (λ (x : Event). creditOf (a .p) n (x .code) (a .s)) (c .before .before .before .before .before .event-of .ensures)
-    ∙ seen-bytes w (a .p) (a .s) n (ap worthOf (sym (c .before .before .value .given .1)) ∙ valued (c .before .before .before .before))
-    ∙ ap (λ (x : Finished). seenOf x (a .p) (a .s)) (sym (c .before .before .before .before .before .before .before .f .given .1))
+    ∙ ap (λ (x : Event). creditOf (a .p) n (x .code) (a .s)) (at-event-of .event-of .ensures)
+    ∙ seen-bytes w (a .p) (a .s) n (ap worthOf (sym (c .before .before .value .given .1)) ∙ valued (at-before .before))
+    ∙ ap (λ (x : Finished). seenOf x (a .p) (a .s)) (sym (at-f .f .given .1))
 
 returns-3 : tie.Need-returns-3
 returns-3 c =
-    let a = c .before .before .before .before .before .before .before .args in
-    let w = c .before .before .before .before .before .f .given .0 .0 in
-    ap (λ (x : Event). after (a .p) (broken (a .s) (x .code))) (c .before .before .before .event-of .ensures)
+    let at-event-of = c .before .before .before in
+    let at-f = at-event-of .before .before in
+    let at-start = at-f .before .before in
+    let a = at-start .args in
+    let w = at-f .f .given .0 .0 in
+    ap (λ (x : Event). after (a .p) (broken (a .s) (x .code))) (at-event-of .event-of .ensures)
     ∙ seen-refused w (a .p) (a .s) (ap worthOf (sym (c .enum-told2 .given .1)) ∙ valued (c .before .before))
-    ∙ ap (λ (x : Finished). seenOf x (a .p) (a .s)) (sym (c .before .before .before .before .before .f .given .1))
+    ∙ ap (λ (x : Finished). seenOf x (a .p) (a .s)) (sym (at-f .f .given .1))
 
 pub look-spec : {M : Type 1} → statement M
 look-spec =

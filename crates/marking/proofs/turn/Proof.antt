@@ -15,7 +15,9 @@ returns-2 c = simp (ne-eqb _ _ (c .before .before .if1 .left), c .before .if2 .t
 
 returns-3 : tie.Need-returns-3
 unfolding turnOf
-returns-3 c = simp (ne-eqb _ _ (c .before .before .before .if1 .left), c .before .before .if2 .left, c .look .ensures, c .before .get-finished .ensures)
+returns-3 c =
+    let at-if1 = c .before .before .before in
+    simp (ne-eqb _ _ (at-if1 .if1 .left), c .before .before .if2 .left, c .look .ensures, c .before .get-finished .ensures)
 
 pub turn-spec : {M : Type 1} → statement M
 turn-spec =

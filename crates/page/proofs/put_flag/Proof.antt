@@ -7,11 +7,17 @@ use Rattle.page.proofs.put_flag.Tie as tie
 
 returns : tie.Need-returns
 unfolding putAll flagField
-returns c = rw (c .before .before .before .before .if1 .taken) (c .before .before .put2 .ensures ∙ ap (λ (p : Page). put p 49) (c .before .before .before .before .before .before .before .put .ensures))
+returns c =
+    let at-if1 = c .before .before .before .before in
+    let at-put = at-if1 .before .before .before in
+    rw (at-if1 .if1 .taken) (c .before .before .put2 .ensures ∙ ap (λ (p : Page). put p 49) (at-put .put .ensures))
 
 returns-2 : tie.Need-returns-2
 unfolding putAll flagField
-returns-2 c = rw (c .before .before .before .before .if1 .left) (c .before .before .put3 .ensures ∙ ap (λ (p : Page). put p 48) (c .before .before .before .before .before .before .before .put .ensures))
+returns-2 c =
+    let at-if1 = c .before .before .before .before in
+    let at-put = at-if1 .before .before .before in
+    rw (at-if1 .if1 .left) (c .before .before .put3 .ensures ∙ ap (λ (p : Page). put p 48) (at-put .put .ensures))
 
 pub put-flag-spec : {M : Type 1} → statement M
 put-flag-spec =

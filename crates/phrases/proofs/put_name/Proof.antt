@@ -7,7 +7,9 @@ use Rattle.phrases.proofs.put_name.Tie as tie
 
 returns : tie.Need-returns
 unfolding wordLine
-returns c = then _ _ _ (c .before .before .before .before .before .before .put-text .ensures) (c .before .before .put-end .ensures)
+returns c =
+    let at-put-text = c .before .before .before .before .before .before in
+    then _ _ _ (at-put-text .put-text .ensures) (c .before .before .put-end .ensures)
 
 pub put-name-spec : {M : Type 1} → statement M
 put-name-spec = tie.close (tie.spec (λ c κs. search needs) (λ c κs. search needs) (λ c. search needs) returns)

@@ -7,7 +7,10 @@ use Rattle.phrases.proofs.put_slot.Tie as tie
 
 returns : tie.Need-returns
 unfolding slotLine
-returns c = then _ _ _ (c .before .before .before .before .before .before .before .before .before .before .put-text .ensures) (then _ _ _ (c .before .before .before .before .before .before .put-decimal .ensures) (c .before .before .put-words .ensures))
+returns c =
+    let at-put-decimal = c .before .before .before .before .before .before in
+    let at-put-text = at-put-decimal .before .before .before .before in
+    then _ _ _ (at-put-text .put-text .ensures) (then _ _ _ (at-put-decimal .put-decimal .ensures) (c .before .before .put-words .ensures))
 
 pub put-slot-spec : {M : Type 1} → statement M
 put-slot-spec =

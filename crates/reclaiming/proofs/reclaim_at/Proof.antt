@@ -27,7 +27,7 @@ returns : tie.Need-returns
 unfolding reclaimAt
 returns c =
     let at-record-at = c .before .before .before in
-    simp (← at-record-at .record-at .ensures, eq-eqb _ _ (c .before .if1 .taken), c .left .ensures)
+    simp (← at-record-at .record-at .ensures, eq-eqb _ _ (c .before .if1 .taken), c .stopped .ensures)
 
 reclaim-flying-requires : tie.Need-reclaim-flying-requires
 reclaim-flying-requires c κs =

@@ -26,7 +26,8 @@ size c = omega arith
 returns-2 : tie.Need-returns-2
 unfolding filled
 returns-2 c =
-    let a = c .before .before .before .before .args in
+    let at-start = c .before .before .before .before in
+    let a = at-start .args in
     let h = size c in
     simp (eq-eqb _ _ h, c .before .bit .ensures, c .bit2 .ensures)
     (ap (λ (l : List ℕ). (true, l)) (all-stored (recordList (a .v)) (now (a .part)) h))

@@ -7,7 +7,9 @@ use Rattle.records.proofs.record_at.Statement.{statement}
 use Rattle.records.proofs.record_at.Tie as tie
 
 returns : tie.Need-returns
-returns c = let a = c .before .before .before .args in c .record-of .ensures ∙ of-part (now (a .records)) (a .r)
+returns c =
+    let at-start = c .before .before .before in
+    let a = at-start .args in c .record-of .ensures ∙ of-part (now (a .records)) (a .r)
 
 pub record-at-spec : {M : Type 1} → statement M
 record-at-spec =

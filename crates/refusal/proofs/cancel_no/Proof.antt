@@ -21,9 +21,12 @@ is-grounded-requires c κs = fit-with _ _ (passed (c .before .before .fits-with 
 returns-2 : tie.Need-returns-2
 unfolding cancelNo cancelTests
 returns-2 c =
-    let a = c .before .before .before .before .before .before .args in
+    let at-if1 = c .before .before .before in
+    let at-fits-with = at-if1 .before in
+    let at-start = at-fits-with .before .before in
+    let a = at-start .args in
     let records = now (a .records) in
-    simp (passed (c .before .before .before .before .fits-with .ensures) (c .before .before .before .if1 .left), c .earlier2 .ensures, c .before .is-grounded .ensures, c .before .before .earlier .ensures)
+    simp (passed (at-fits-with .fits-with .ensures) (at-if1 .if1 .left), c .earlier2 .ensures, c .before .is-grounded .ensures, c .before .before .earlier .ensures)
     (folded ((a .e .work .busy, 12) ∷ (notFlying records (findIn records (a .e .account .occupancy) (a .id)), 6) ∷ []) refl)
 
 pub cancel-no-spec : {M : Type 1} → statement M

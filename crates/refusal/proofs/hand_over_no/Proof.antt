@@ -9,8 +9,11 @@ use Rattle.refusal.proofs.hand_over_no.Tie as tie
 returns : tie.Need-returns
 unfolding handOverNo handOverTests
 returns c =
-    let a = c .before .before .before .before .before .args in
-    simp (c .earlier3 .ensures, c .before .is-foreign .ensures, c .before .before .earlier2 .ensures, c .before .before .before .earlier .ensures, c .before .before .before .before .is-ready .ensures)
+    let at-earlier = c .before .before .before in
+    let at-is-ready = at-earlier .before in
+    let at-start = at-is-ready .before in
+    let a = at-start .args in
+    simp (c .earlier3 .ensures, c .before .is-foreign .ensures, c .before .before .earlier2 .ensures, at-earlier .earlier .ensures, at-is-ready .is-ready .ensures)
     (folded (handOverTests (a .e) (a .finished) (a .w)) refl)
 
 pub hand-over-no-spec : {M : Type 1} → statement M

@@ -13,16 +13,20 @@ record-at-requires c κs = let a = c .before .before .before .before .before .ar
 
 returns : tie.Need-returns
 returns c =
-    let a = c .before .before .before .before .args in
+    let at-start = c .before .before .before .before in
+    let a = at-start .args in
     ap (badRecord (a .e) (now (a .records))) (sym (c .enum-told .given .1) ∙ c .before .before .find-id .ensures)
 
 returns-2 : tie.Need-returns-2
 returns-2 c =
-    let a = c .before .before .before .before .before .before .before .args in
+    let at-found = c .before .before .before in
+    let at-find-id = at-found .before .before in
+    let at-start = at-find-id .before .before in
+    let a = at-start .args in
     c .is-misplaced .ensures
     ∙ ap (misplaced (a .e .shape .slots)) (c .before .record-at .ensures)
     ∙ bad-found (a .e) (now (a .records)) _
-    ∙ ap (badRecord (a .e) (now (a .records))) (sym (c .before .before .before .found .given .1) ∙ c .before .before .before .before .before .find-id .ensures)
+    ∙ ap (badRecord (a .e) (now (a .records))) (sym (at-found .found .given .1) ∙ at-find-id .find-id .ensures)
 
 pub is-bad-spec : {M : Type 1} → statement M
 is-bad-spec =

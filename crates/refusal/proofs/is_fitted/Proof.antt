@@ -8,10 +8,14 @@ returns : tie.Need-returns
 returns c = simp (failed (c .before .fits-with .ensures) (c .if1 .taken))
 
 returns-2 : tie.Need-returns-2
-returns-2 c = simp (passed (c .before .before .before .fits-with .ensures) (c .before .before .if1 .left), failed (c .before .is-sized .ensures) (c .if2 .taken))
+returns-2 c =
+    let at-fits-with = c .before .before .before in
+    simp (passed (at-fits-with .fits-with .ensures) (c .before .before .if1 .left), failed (c .before .is-sized .ensures) (c .if2 .taken))
 
 returns-3 : tie.Need-returns-3
-returns-3 c = simp (passed (c .before .before .before .fits-with .ensures) (c .before .before .if1 .left), passed (c .before .is-sized .ensures) (c .if2 .left))
+returns-3 c =
+    let at-fits-with = c .before .before .before in
+    simp (passed (at-fits-with .fits-with .ensures) (c .before .before .if1 .left), passed (c .before .is-sized .ensures) (c .if2 .left))
 
 pub is-fitted-spec : {M : Type 1} → statement M
 is-fitted-spec =

@@ -6,7 +6,9 @@ use Rattle.refusal.proofs.place_for.Statement.{statement}
 use Rattle.refusal.proofs.place_for.Tie as tie
 
 returns : tie.Need-returns
-returns c = ap slotNumber (sym (c .before .slot .given .1) ∙ c .before .before .before .slot-for .ensures)
+returns c =
+    let at-slot-for = c .before .before .before in
+    ap slotNumber (sym (c .before .slot .given .1) ∙ at-slot-for .slot-for .ensures)
 
 returns-2 : tie.Need-returns-2
 returns-2 c = ap slotNumber (sym (c .enum-told .given .1) ∙ c .before .before .slot-for .ensures)

@@ -17,15 +17,19 @@ returns c = simp (failed (c .before .is-fitted .ensures) (c .if1 .taken))
 
 is-bad-requires : tie.Need-is-bad-requires
 is-bad-requires c κs =
-    let a = c .before .before .before .args in
+    let at-start = c .before .before .before in
+    let a = at-start .args in
     fitted (a .e) (a .finished) (now (a .records)) (a .packets) (passed (c .before .is-fitted .ensures) (c .if1 .left)) .1
 
 returns-2 : tie.Need-returns-2
 unfolding reclaimNo reclaimTests
 returns-2 c =
-    let a = c .before .before .before .before .before .before .args in
+    let at-if1 = c .before .before .before in
+    let at-is-fitted = at-if1 .before in
+    let at-start = at-is-fitted .before .before in
+    let a = at-start .args in
     let records = now (a .records) in
-    simp (passed (c .before .before .before .before .is-fitted .ensures) (c .before .before .before .if1 .left), c .earlier2 .ensures, c .before .earlier .ensures, c .before .before .is-bad .ensures)
+    simp (passed (at-is-fitted .is-fitted .ensures) (at-if1 .if1 .left), c .earlier2 .ensures, c .before .earlier .ensures, c .before .before .is-bad .ensures)
     (folded ((badRecord (a .e) records (findIn records (a .e .account .occupancy) (a .id)), 1) ∷ (a .e .work .busy, 12) ∷ []) refl)
 
 pub reclaim-no-spec : {M : Type 1} → statement M

@@ -5,13 +5,16 @@ use Rattle.requests.proofs.record_for.Tie as tie
 
 returns : tie.Need-returns
 returns c =
+    let at-buffer-of = c .before .before .before in
+    let at-incoming-of = at-buffer-of .before in
+    let at-kind-of = at-incoming-of .before in
     simp (
       c .given-of .ensures,
       c .before .required-of .ensures,
       c .before .before .setup-of .ensures,
-      c .before .before .before .buffer-of .ensures,
-      c .before .before .before .before .incoming-of .ensures,
-      c .before .before .before .before .before .kind-of .ensures,
+      at-buffer-of .buffer-of .ensures,
+      at-incoming-of .incoming-of .ensures,
+      at-kind-of .kind-of .ensures,
     )
 
 pub record-for-spec : {M : Type 1} → statement M

@@ -21,7 +21,8 @@ behind e records = (occupied e records, 2) ∷ (e .flags .halted && e .flags .re
 returns : tie.Need-returns
 unfolding beginNo beginTests recordNo recordTests
 returns c =
-    let a = c .before .before .before .args in
+    let at-start = c .before .before .before in
+    let a = at-start .args in
     let e = a .e in
     c .before .record-no .ensures
     ∙ sym (first-front (recordTests e (now (a .records))) (behind e (now (a .records)))
@@ -29,16 +30,19 @@ returns c =
 
 is-occupied-requires : tie.Need-is-occupied-requires
 is-occupied-requires c κs =
-    let a = c .before .before .before .args in
+    let at-start = c .before .before .before in
+    let a = at-start .args in
     record-size (a .e) (now (a .records)) (sym (c .before .record-no .ensures) ∙ c .if1 .left)
 
 returns-2 : tie.Need-returns-2
 unfolding beginNo beginTests recordNo recordTests occupied occupiedBy
 returns-2 c =
-    let a = c .before .before .before .before .before .before .before .args in
+    let at-before = c .before .before .before in
+    let at-start = at-before .before .before .before .before in
+    let a = at-start .args in
     let e = a .e in
-    let tested = c .before .before .before .before in
-    simp (c .earlier2 .ensures, c .before .both .ensures, c .before .before .earlier .ensures, c .before .before .before .is-occupied .ensures)
+    let tested = at-before .before in
+    simp (c .earlier2 .ensures, c .before .both .ensures, c .before .before .earlier .ensures, at-before .is-occupied .ensures)
     (folded (behind e (now (a .records))) refl
     ∙ sym (first-rest (recordTests e (now (a .records))) (behind e (now (a .records))) refl (sym (tested .before .record-no .ensures) ∙ tested .if1 .left)))
 

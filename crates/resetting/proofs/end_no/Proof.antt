@@ -12,7 +12,8 @@ use Rattle.resetting.proofs.end_no.Tie as tie
 returns : tie.Need-returns
 unfolding endNo endTests plainNo plainTests
 returns c =
-    let e = c .before .before .before .args .e in
+    let at-start = c .before .before .before in
+    let e = at-start .args .e in
     simp (c .earlier .ensures, c .before .before .plain-no .ensures) (continued (plainTests e) ((not (e .flags .reset), 10) ∷ []) refl refl)
 
 pub end-no-spec : {M : Type 1} → statement M

@@ -16,7 +16,8 @@ returns c =
 returns-2 : tie.Need-returns-2
 unfolding endReset
 returns-2 c =
-    let a = c .before .before .before .args in
+    let at-start = c .before .before .before in
+    let a = at-start .args in
     simp (eq-eqb (endNo (a .e)) 0 (sym (c .before .before .end-no .ensures) ∙ c .before .if1 .left), c .both .ensures)
 
 pub end-reset-spec : {M : Type 1} → statement M

@@ -12,8 +12,11 @@ returns c = simp (failed (c .before .is-flying .ensures) (c .if1 .taken))
 returns-2 : tie.Need-returns-2
 unfolding retireOne
 returns-2 c =
-    let tested = c .before .before .before .before .before .before .before in
-    simp (passed (tested .before .is-flying .ensures) (tested .if1 .left), c .less .ensures, c .before .before .before .before .before .record-at .ensures, c .before .before .before .set-word .ensures)
+    let at-set-word = c .before .before .before in
+    let at-record-at = at-set-word .before .before in
+    let at-before = at-record-at .before in
+    let tested = at-before .before in
+    simp (passed (tested .before .is-flying .ensures) (tested .if1 .left), c .less .ensures, at-record-at .record-at .ensures, at-set-word .set-word .ensures)
 
 pub retire-one-spec : {M : Type 1} → statement M
 retire-one-spec =

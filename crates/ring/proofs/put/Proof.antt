@@ -7,10 +7,12 @@ use Rattle.ring.proofs.put.Tie as tie
 returns : tie.Need-returns
 unfolding storedBy
 returns c =
+    let at-set-transfer-trb = c .before .before .before in
+    let at-cycle-by = at-set-transfer-trb .before in
     simp (
       c .position-by .ensures,
-      c .before .before .before .set-transfer-trb .ensures,
-      c .before .before .before .before .cycle-by .ensures,
+      at-set-transfer-trb .set-transfer-trb .ensures,
+      at-cycle-by .cycle-by .ensures,
     )
 
 pub put-spec : {M : Type 1} → statement M

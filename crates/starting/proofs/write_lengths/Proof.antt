@@ -17,7 +17,8 @@ returns c =
 
 returns-2 : tie.Need-returns-2
 returns-2 c =
-    let at-if1 = c .before .before .before .before in
+    let at-before = c .before .before .before in
+    let at-if1 = at-before .before in
     let at-start = at-if1 .before .before .before in
     simp (some-given (now (at-start .args .lengths)) (at-if1 .if1 .left), c .before .before .copy-lengths .ensures)
 

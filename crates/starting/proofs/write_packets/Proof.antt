@@ -27,7 +27,8 @@ returns-3 c = simp (c .enum-told3 .given .1)
 returns-4 : tie.Need-returns-4
 unfolding writePackets
 returns-4 c =
-    let at-enum-told4 = c .before .before .before .before in
+    let at-before = c .before .before .before in
+    let at-enum-told4 = at-before .before in
     simp (at-enum-told4 .enum-told4 .given .1, c .before .before .write-lengths .ensures)
 
 pub write-packets-spec : {M : Type 1} → statement M

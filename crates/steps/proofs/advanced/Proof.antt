@@ -6,7 +6,10 @@ use Rattle.steps.proofs.advanced.Tie as tie
 
 returns : tie.Need-returns
 unfolding advancedBy
-returns c = simp (c .with-store .ensures, c .before .with-stored .ensures, c .before .before .before .before .run-on .ensures, c .before .before .before .before .before .frame-on .ensures)
+returns c =
+    let at-run-on = c .before .before .before .before in
+    let at-frame-on = at-run-on .before in
+    simp (c .with-store .ensures, c .before .with-stored .ensures, at-run-on .run-on .ensures, at-frame-on .frame-on .ensures)
 
 pub advanced-spec : {M : Type 1} → statement M
 advanced-spec =

@@ -21,7 +21,9 @@ returns-3 c = simp (sym (c .before .before .next-of .ensures) ∙ ap named (c .e
 
 returns-4 : tie.Need-returns-4
 unfolding concludedBy settled
-returns-4 c = simp (sym (c .before .before .before .before .next-of .ensures) ∙ ap named (c .before .before .enum-told4 .given .1), c .settled .ensures)
+returns-4 c =
+    let at-next-of = c .before .before .before .before in
+    simp (sym (at-next-of .next-of .ensures) ∙ ap named (c .before .before .enum-told4 .given .1), c .settled .ensures)
 
 pub concluded-spec : {M : Type 1} → statement M
 concluded-spec =

@@ -17,14 +17,16 @@ returns c =
 
 enqueue-pointer-requires : tie.Need-enqueue-pointer-requires
 enqueue-pointer-requires c κs =
-    let e = c .before .before .before .args .e in
+    let at-start = c .before .before .before in
+    let e = at-start .args .e in
     let tested = c .before in
     place-address e (plain-fits e (sym (tested .before .plain-no .ensures) ∙ tested .if1 .left))
 
 returns-2 : tie.Need-returns-2
 unfolding pointer
 returns-2 c =
-    let a = c .before .before .before .before .args in
+    let at-start = c .before .before .before .before in
+    let a = at-start .args in
     let tested = c .before .before in
     simp (eq-eqb (plainNo (a .e)) 0 (sym (tested .before .plain-no .ensures) ∙ tested .if1 .left), c .enqueue-pointer .ensures)
 

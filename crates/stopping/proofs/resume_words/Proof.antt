@@ -24,7 +24,8 @@ dequeue-words-requires c κs =
 returns-2 : tie.Need-returns-2
 unfolding resume
 returns-2 c =
-    let a = c .before .before .before .args in
+    let at-start = c .before .before .before in
+    let a = at-start .args in
     let tested = c .before in
     simp (eq-eqb (plainNo (a .e)) 0 (sym (tested .before .plain-no .ensures) ∙ tested .if1 .left), c .dequeue-words .ensures)
 

@@ -11,11 +11,15 @@ returns c = simp (eq-eqb _ _ (c .before .if1 .taken), c .control-trb .ensures)
 
 returns-2 : tie.Need-returns-2
 unfolding trbWith
-returns-2 c = simp (ne-eqb _ _ (c .before .before .before .if1 .left), eq-eqb _ _ (c .before .if2 .taken), c .isoch-trb .ensures)
+returns-2 c =
+    let at-if1 = c .before .before .before in
+    simp (ne-eqb _ _ (at-if1 .if1 .left), eq-eqb _ _ (c .before .if2 .taken), c .isoch-trb .ensures)
 
 returns-3 : tie.Need-returns-3
 unfolding trbWith
-returns-3 c = simp (ne-eqb _ _ (c .before .before .before .if1 .left), ne-eqb _ _ (c .before .if2 .left), c .normal-trb .ensures)
+returns-3 c =
+    let at-if1 = c .before .before .before in
+    simp (ne-eqb _ _ (at-if1 .if1 .left), ne-eqb _ _ (c .before .if2 .left), c .normal-trb .ensures)
 
 pub trb-of-spec : {M : Type 1} → statement M
 trb-of-spec =

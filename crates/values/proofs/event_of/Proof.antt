@@ -5,7 +5,13 @@ use Rattle.values.proofs.event_of.Tie as tie
 
 returns : tie.Need-returns
 unfolding eventOf
-returns c = simp (c .before .before .before .before .before .before .word .ensures, c .before .before .before .before .word2 .ensures, c .before .before .word3 .ensures, c .word4 .ensures, c .before .before .before .before .before .before .before .value .ensures, c .before .before .before .before .before .value2 .ensures, c .before .before .before .value3 .ensures, c .before .value4 .ensures)
+returns c =
+    let at-value3 = c .before .before .before in
+    let at-word2 = at-value3 .before in
+    let at-value2 = at-word2 .before in
+    let at-word = at-value2 .before in
+    let at-value = at-word .before in
+    simp (at-word .word .ensures, at-word2 .word2 .ensures, c .before .before .word3 .ensures, c .word4 .ensures, at-value .value .ensures, at-value2 .value2 .ensures, at-value3 .value3 .ensures, c .before .value4 .ensures)
 
 pub event-of-spec : {M : Type 1} → statement M
 event-of-spec =

@@ -15,11 +15,15 @@ returns-2 c = simp (eq-eqb _ _ (c .before .before .if1 .left), lt-leb _ _ (c .be
 
 returns-3 : tie.Need-returns-3
 unfolding lengthsOf
-returns-3 c = simp (eq-eqb _ _ (c .before .before .before .if1 .left), le-leb _ _ (c .before .before .if2 .left), lt-leb _ _ (c .before .if3 .taken))
+returns-3 c =
+    let at-if1 = c .before .before .before in
+    simp (eq-eqb _ _ (at-if1 .if1 .left), le-leb _ _ (c .before .before .if2 .left), lt-leb _ _ (c .before .if3 .taken))
 
 returns-4 : tie.Need-returns-4
 unfolding lengthsOf
-returns-4 c = simp (eq-eqb _ _ (c .before .before .before .if1 .left), le-leb _ _ (c .before .before .if2 .left), le-leb _ _ (c .before .if3 .left))
+returns-4 c =
+    let at-if1 = c .before .before .before in
+    simp (eq-eqb _ _ (at-if1 .if1 .left), le-leb _ _ (c .before .before .if2 .left), le-leb _ _ (c .before .if3 .left))
 
 pub lengths-of-spec : {M : Type 1} → statement M
 lengths-of-spec =

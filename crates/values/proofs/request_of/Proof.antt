@@ -9,7 +9,9 @@ add-value c = let low = c .before .before .address-at .ensures .1 in search need
 
 returns : tie.Need-returns
 unfolding requestOf
-returns c = simp (c .before .before .before .address-at .ensures .0, c .before .before .what-of .ensures, c .before .value .ensures, c .value2 .ensures)
+returns c =
+    let at-address-at = c .before .before .before in
+    simp (at-address-at .address-at .ensures .0, c .before .before .what-of .ensures, c .before .value .ensures, c .value2 .ensures)
 
 pub request-of-spec : {M : Type 1} → statement M
 request-of-spec = tie.close (tie.spec (λ c κs. search needs) (λ c κs. search needs) (λ c κs. search needs) add-value (λ c κs. search needs) returns)

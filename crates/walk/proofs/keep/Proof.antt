@@ -11,7 +11,10 @@ returns c = simp (← c .before .packet-at .ensures, c .if1 .taken)
 returns-2 : tie.Need-returns-2
 unfolding keepOne
 returns-2 c =
-    simp (c .before .before .put-packet .ensures, ← c .before .before .before .before .before .before .packet-at .ensures, c .before .before .before .before .before .if1 .left, c .before .before .before .before .if2 .taken)
+    let at-if2 = c .before .before .before .before in
+    let at-if1 = at-if2 .before in
+    let at-packet-at = at-if1 .before in
+    simp (c .before .before .put-packet .ensures, ← at-packet-at .packet-at .ensures, at-if1 .if1 .left, at-if2 .if2 .taken)
 
 returns-3 : tie.Need-returns-3
 unfolding keepOne

@@ -14,28 +14,35 @@ use Rattle.walk.proofs.reclaim_iso.Tie as tie
 returns : tie.Need-returns
 unfolding reclaimIso
 returns c =
-    let a = c .before .before .before .before .before .before .before .before .before .args in
-    let w = c .before .before .before .before .before .walk-over in
+    let at-walk-over = c .before .before .before .before .before in
+    let at-start = at-walk-over .before .before .before .before in
+    let a = at-start .args in
+    let w = at-walk-over .walk-over in
     ap (λ (x : ReclaimedOne). (x, w .last .1 .1 .0)) (c .unfinished .ensures)
     ∙ after (λ (s : Swept) (l : List ℕ). (sweptAnswer s (a .e) (a .v) (a .number) l, l)) (w .ensures) (ap sweptOf (c .before .enum-told .given .1))
 
 returns-2 : tie.Need-returns-2
 unfolding reclaimIso
 returns-2 c =
-    let a = c .before .before .before .before .before .before .before .before .before .before .args in
-    let w = c .before .before .before .before .before .before .walk-over in
+    let at-walk-over = c .before .before .before .before .before .before in
+    let at-start = at-walk-over .before .before .before .before in
+    let a = at-start .args in
+    let w = at-walk-over .walk-over in
     ap (λ (x : ReclaimedOne). (x, w .last .1 .1 .0)) (c .completed .ensures)
     ∙ after (λ (s : Swept) (l : List ℕ). (sweptAnswer s (a .e) (a .v) (a .number) l, l)) (w .ensures) (ap sweptOf (c .before .before .swept .given .1))
 
 returns-3 : tie.Need-returns-3
 unfolding reclaimIso
 returns-3 c =
-    let a = c .before .before .before .before .before .before .before .before .before .before .before .before .args in
-    let w = c .before .before .before .before .before .before .before .before .walk-over in
-    let code = c .before .before .before .before .swept2 .given .0 .0 in
+    let at-swept2 = c .before .before .before .before in
+    let at-walk-over = at-swept2 .before .before .before .before in
+    let at-start = at-walk-over .before .before .before .before in
+    let a = at-start .args in
+    let w = at-walk-over .walk-over in
+    let code = at-swept2 .swept2 .given .0 .0 in
     ap (λ (x : ReclaimedOne). (x, w .last .1 .1 .0))
     (c .completed2 .ensures ∙ ap (λ (n : ℕ). complete (a .e) (a .v) (a .number) code false n) (c .before .total-of .ensures))
-    ∙ after (λ (s : Swept) (l : List ℕ). (sweptAnswer s (a .e) (a .v) (a .number) l, l)) (w .ensures) (ap sweptOf (c .before .before .before .before .swept2 .given .1))
+    ∙ after (λ (s : Swept) (l : List ℕ). (sweptAnswer s (a .e) (a .v) (a .number) l, l)) (w .ensures) (ap sweptOf (at-swept2 .swept2 .given .1))
 
 pub reclaim-iso-spec : {M : Type 1} → statement M
 reclaim-iso-spec =

@@ -15,14 +15,18 @@ use Rattle.walk.proofs.walk_over.Tie as tie
 
 returns : tie.Need-returns
 returns c =
-    let start = c .before .before .before .before .before .before .before .before .before .before .before in
+    let at-keep-all = c .before .before .before in
+    let at-marked-block = at-keep-all .before .before .before in
+    let at-load = at-marked-block .before in
+    let at-before = at-load .before .before .before in
+    let start = at-before .before in
     let a = start .args in
-    let load = c .before .before .before .before .before .before .before .load in
-    let done = c .before .before .before .before .before .before .marked-block in
+    let load = at-load .load in
+    let done = at-marked-block .marked-block in
     walk-swept (a .slots) (now (a .finished)) (a .v) (a .number) (now (a .packets)) (start .pre .0) (start .pre .1) (start .pre .2) (load .result) (load .ensures)
-    (sweptOf (c .told .result)) (c .before .before .before .keep-all .last .0)
+    (sweptOf (c .told .result)) (at-keep-all .keep-all .last .0)
     (c .told .ensures ∙ ap sweptBy (done .ensures .1))
-    (c .before .before .before .keep-all .ensures
+    (at-keep-all .keep-all .ensures
     ∙ ap (λ (ps : List Packet). keepBelow (a .v .count) (now (a .packets)) (a .number) (λ (j : ℕ). getD ps j nowhere)) (done .ensures .0))
 
 pub walk-over-spec : {M : Type 1} → statement M

@@ -16,11 +16,15 @@ returns-2 c = simp (ne-eqb _ _ (c .before .before .if1 .left), sym (c .before .e
 
 returns-3 : tie.Need-returns-3
 unfolding requestForm
-returns-3 c = simp (ne-eqb _ _ (c .before .before .before .if1 .left), sym (c .before .before .either .ensures) ∙ c .before .if2 .left, eq-eqb _ _ (c .if3 .taken))
+returns-3 c =
+    let at-if1 = c .before .before .before in
+    simp (ne-eqb _ _ (at-if1 .if1 .left), sym (c .before .before .either .ensures) ∙ c .before .if2 .left, eq-eqb _ _ (c .if3 .taken))
 
 returns-4 : tie.Need-returns-4
 unfolding requestForm
-returns-4 c = simp (ne-eqb _ _ (c .before .before .before .if1 .left), sym (c .before .before .either .ensures) ∙ c .before .if2 .left, ne-eqb _ _ (c .if3 .left))
+returns-4 c =
+    let at-if1 = c .before .before .before in
+    simp (ne-eqb _ _ (at-if1 .if1 .left), sym (c .before .before .either .ensures) ∙ c .before .if2 .left, ne-eqb _ _ (c .if3 .left))
 
 pub request-form-spec : {M : Type 1} → statement M
 request-form-spec = tie.close (tie.spec returns (λ c κs. search needs) returns-2 returns-3 returns-4)

@@ -11,11 +11,15 @@ returns c = simp (sym (c .before .either .ensures) ∙ c .if1 .taken)
 
 returns-2 : tie.Need-returns-2
 unfolding tableForm
-returns-2 c = simp (sym (c .before .before .before .either .ensures) ∙ c .before .before .if1 .left, sym (c .before .either2 .ensures) ∙ c .if2 .taken)
+returns-2 c =
+    let at-either = c .before .before .before in
+    simp (sym (at-either .either .ensures) ∙ c .before .before .if1 .left, sym (c .before .either2 .ensures) ∙ c .if2 .taken)
 
 returns-3 : tie.Need-returns-3
 unfolding tableForm
-returns-3 c = simp (sym (c .before .before .before .either .ensures) ∙ c .before .before .if1 .left, sym (c .before .either2 .ensures) ∙ c .if2 .left)
+returns-3 c =
+    let at-either = c .before .before .before in
+    simp (sym (at-either .either .ensures) ∙ c .before .before .if1 .left, sym (c .before .either2 .ensures) ∙ c .if2 .left)
 
 pub table-form-spec : {M : Type 1} → statement M
 table-form-spec =

@@ -31,8 +31,12 @@ returns-6 c = simp (c .if6 .taken)
 returns-7 : tie.Need-returns-7
 unfolding counts
 returns-7 c =
-    let code = c .before .before .before .before .before .before .args .code in
-    rw (ne-eqb code 1 (c .before .before .before .before .before .if1 .left), ne-eqb code 3 (c .before .before .before .before .if2 .left), ne-eqb code 4 (c .before .before .before .if3 .left), ne-eqb code 13 (c .before .before .if4 .left), ne-eqb code 23 (c .before .if5 .left), ne-eqb code 26 (c .if6 .left))
+    let at-if3 = c .before .before .before in
+    let at-if2 = at-if3 .before in
+    let at-if1 = at-if2 .before in
+    let at-start = at-if1 .before in
+    let code = at-start .args .code in
+    rw (ne-eqb code 1 (at-if1 .if1 .left), ne-eqb code 3 (at-if2 .if2 .left), ne-eqb code 4 (at-if3 .if3 .left), ne-eqb code 13 (c .before .before .if4 .left), ne-eqb code 23 (c .before .if5 .left), ne-eqb code 26 (c .if6 .left))
 
 pub is-counted-spec : {M : Type 1} → statement M
 is-counted-spec =

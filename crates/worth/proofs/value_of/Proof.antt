@@ -16,11 +16,15 @@ returns-2 c = simp (sym (c .before .before .is-counted .ensures) ∙ c .before .
 
 returns-3 : tie.Need-returns-3
 unfolding worth
-returns-3 c = simp (sym (c .before .before .before .is-counted .ensures) ∙ c .before .before .if1 .left, ne-eqb _ _ (c .before .if2 .left), eq-eqb _ _ (c .if3 .taken))
+returns-3 c =
+    let at-is-counted = c .before .before .before in
+    simp (sym (at-is-counted .is-counted .ensures) ∙ c .before .before .if1 .left, ne-eqb _ _ (c .before .if2 .left), eq-eqb _ _ (c .if3 .taken))
 
 returns-4 : tie.Need-returns-4
 unfolding worth
-returns-4 c = simp (sym (c .before .before .before .is-counted .ensures) ∙ c .before .before .if1 .left, ne-eqb _ _ (c .before .if2 .left), ne-eqb _ _ (c .if3 .left))
+returns-4 c =
+    let at-is-counted = c .before .before .before in
+    simp (sym (at-is-counted .is-counted .ensures) ∙ c .before .before .if1 .left, ne-eqb _ _ (c .before .if2 .left), ne-eqb _ _ (c .if3 .left))
 
 pub value-of-spec : {M : Type 1} → statement M
 value-of-spec =

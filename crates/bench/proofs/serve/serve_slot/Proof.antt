@@ -14,7 +14,11 @@ returns c = rw (le-ltb _ _ (c .if1 .taken))
 
 returns-2 : tie.Need-returns-2
 unfolding serveSlot
-returns-2 c = rw (lt-ltb _ _ (c .before .before .before .before .before .before .if1 .left), ← c .before .before .before .before .before .slot-words .ensures) (ap (λ (q : Page). (leaves (c .before .before .before .before .before .before .before .before .before .args .e) (q .0) On, q .1)) (c .before .before .put-slot .ensures))
+returns-2 c =
+    let at-slot-words = c .before .before .before .before .before in
+    let at-if1 = at-slot-words .before in
+    let at-start = at-if1 .before .before .before in
+    rw (lt-ltb _ _ (at-if1 .if1 .left), ← at-slot-words .slot-words .ensures) (ap (λ (q : Page). (leaves (at-start .args .e) (q .0) On, q .1)) (c .before .before .put-slot .ensures))
 
 pub serve-slot-spec : {M : Type 1} → statement M
 serve-slot-spec =

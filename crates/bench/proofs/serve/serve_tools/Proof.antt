@@ -11,17 +11,27 @@ use Rattle.bench.proofs.serve.serve_tools.Tie as tie
 
 returns : tie.Need-returns
 unfolding serveTools
-returns c = rw (eq-eqb _ _ (c .before .before .before .before .if1 .taken), ← c .before .before .before .before .before .value .ensures) (c .before .before .serve-slot .ensures)
+returns c =
+    let at-if1 = c .before .before .before .before in
+    let at-value = at-if1 .before in
+    rw (eq-eqb _ _ (at-if1 .if1 .taken), ← at-value .value .ensures) (c .before .before .serve-slot .ensures)
 
 returns-2 : tie.Need-returns-2
 unfolding serveTools
-returns-2 c = rw (ne-eqb _ _ (c .before .before .before .before .before .if1 .left), eq-eqb _ _ (c .before .before .before .before .if2 .taken)) (ap (λ (q : Page). (leaves (c .before .before .before .before .before .before .before .before .before .before .args .e) (q .0) On, q .1)) (c .before .before .put-state .ensures))
+returns-2 c =
+    let at-if2 = c .before .before .before .before in
+    let at-if1 = at-if2 .before in
+    let at-start = at-if1 .before .before .before .before .before in
+    rw (ne-eqb _ _ (at-if1 .if1 .left), eq-eqb _ _ (at-if2 .if2 .taken)) (ap (λ (q : Page). (leaves (at-start .args .e) (q .0) On, q .1)) (c .before .before .put-state .ensures))
 
 returns-3 : tie.Need-returns-3
 unfolding serveTools
 returns-3 c =
-    let a = c .before .before .before .before .before .before .before .before .args in
-    rw (ne-eqb _ _ (c .before .before .before .if1 .left), ne-eqb _ _ (c .before .before .if2 .left), eq-eqb _ _ (c .before .if3 .taken), ← c .before .before .before .before .value .ensures) (ap (λ (x : Endpoint). (leaves x (a .at) On, now (a .out))) (c .with-next .ensures))
+    let at-if1 = c .before .before .before in
+    let at-value = at-if1 .before in
+    let at-start = at-value .before .before .before .before in
+    let a = at-start .args in
+    rw (ne-eqb _ _ (at-if1 .if1 .left), ne-eqb _ _ (c .before .before .if2 .left), eq-eqb _ _ (c .before .if3 .taken), ← at-value .value .ensures) (ap (λ (x : Endpoint). (leaves x (a .at) On, now (a .out))) (c .with-next .ensures))
 
 returns-4 : tie.Need-returns-4
 unfolding serveTools

@@ -15,17 +15,26 @@ returns c = rw (le-ltb _ _ (c .if1 .taken))
 
 returns-2 : tie.Need-returns-2
 unfolding stride
-returns-2 c = rw (lt-ltb _ _ (c .before .before .before .before .if1 .left), ← c .before .before .before .take-step .ensures, c .enum-told .given .1)
+returns-2 c =
+    let at-take-step = c .before .before .before in
+    let at-if1 = at-take-step .before in
+    rw (lt-ltb _ _ (at-if1 .if1 .left), ← at-take-step .take-step .ensures, c .enum-told .given .1)
 
 returns-3 : tie.Need-returns-3
 unfolding stride
-returns-3 c = rw (lt-ltb _ _ (c .before .before .before .before .if1 .left), ← c .before .before .before .take-step .ensures, c .enum-told2 .given .1)
+returns-3 c =
+    let at-take-step = c .before .before .before in
+    let at-if1 = at-take-step .before in
+    rw (lt-ltb _ _ (at-if1 .if1 .left), ← at-take-step .take-step .ensures, c .enum-told2 .given .1)
 
 returns-4 : tie.Need-returns-4
 unfolding stride
 returns-4 c =
-    rw (lt-ltb _ _ (c .before .before .before .before .before .before .before .before .before .before .if1 .left), ← c .before .before .before .before .before .before .before .before .before .take-step .ensures, c .before .before .before .before .before .before .step .given .1)
-    (ap (λ (q : Page). (record { moved = true; c = c .before .before .before .before .before .before .before .before .before .take-step .result .after; at = q .0 }, q .1)) (c .before .before .put-slot .ensures))
+    let at-step = c .before .before .before .before .before .before in
+    let at-take-step = at-step .before .before .before in
+    let at-if1 = at-take-step .before in
+    rw (lt-ltb _ _ (at-if1 .if1 .left), ← at-take-step .take-step .ensures, at-step .step .given .1)
+    (ap (λ (q : Page). (record { moved = true; c = at-take-step .take-step .result .after; at = q .0 }, q .1)) (c .before .before .put-slot .ensures))
 
 pub stride-spec : {M : Type 1} → statement M
 stride-spec =

@@ -17,7 +17,10 @@ abbrev μ-loop : tie.MeasureT-loop
 μ-loop most ring out₀ at stands₀ end₀ left₀ out stands end left = left
 
 same-length : tie.Need-same-length Inv-loop μ-loop
-same-length c = c .before .before .before .before .before .stride .kept .1 .1 .0 ∙ c .before .before .before .before .before .before .before .before .loop .inv .0
+same-length c =
+    let at-stride = c .before .before .before .before .before in
+    let at-loop = at-stride .before .before .before in
+    at-stride .stride .kept .1 .1 .0 ∙ at-loop .loop .inv .0
 
 returns : tie.Need-returns Inv-loop μ-loop
 returns c =

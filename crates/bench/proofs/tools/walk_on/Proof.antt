@@ -6,11 +6,15 @@ use Rattle.bench.proofs.tools.walk_on.Statement.{statement}
 use Rattle.bench.proofs.tools.walk_on.Tie as tie
 
 same-length : tie.Need-same-length
-same-length c = c .before .before .put-stands .kept .0 ∙ c .before .before .before .before .before .before .before .walk .kept .1 .1 .1 .0
+same-length c =
+    let at-walk = c .before .before .before .before .before .before .before in
+    c .before .before .put-stands .kept .0 ∙ at-walk .walk .kept .1 .1 .1 .0
 
 returns : tie.Need-returns
 unfolding walked
-returns c = ap (λ (q : Page). (record { c = c .before .before .before .before .before .before .before .walk .result .c; at = q .0 }, q .1)) (c .before .before .put-stands .ensures) ∙ ap standBy (c .before .before .before .before .before .before .before .walk .ensures)
+returns c =
+    let at-walk = c .before .before .before .before .before .before .before in
+    ap (λ (q : Page). (record { c = at-walk .walk .result .c; at = q .0 }, q .1)) (c .before .before .put-stands .ensures) ∙ ap standBy (at-walk .walk .ensures)
 
 pub walk-on-spec : {M : Type 1} → statement M
 walk-on-spec =

@@ -10,11 +10,16 @@ returns c = rw (not-true (c .before .before .args .r .good) (c .if1 .taken))
 
 returns-2 : tie.Need-returns-2
 unfolding isStep
-returns-2 c = rw (not-false (c .before .before .before .before .args .r .good) (c .before .before .if1 .left), ne-eqb _ _ (c .if2 .taken))
+returns-2 c =
+    let at-start = c .before .before .before .before in
+    rw (not-false (at-start .args .r .good) (c .before .before .if1 .left), ne-eqb _ _ (c .if2 .taken))
 
 returns-3 : tie.Need-returns-3
 unfolding isStep
-returns-3 c = rw (not-false (c .before .before .before .before .before .args .r .good) (c .before .before .before .if1 .left), eq-eqb _ _ (c .before .if2 .left))
+returns-3 c =
+    let at-if1 = c .before .before .before in
+    let at-start = at-if1 .before .before in
+    rw (not-false (at-start .args .r .good) (at-if1 .if1 .left), eq-eqb _ _ (c .before .if2 .left))
 
 pub is-step-spec : {M : Type 1} → statement M
 is-step-spec =

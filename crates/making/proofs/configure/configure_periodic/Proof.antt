@@ -12,7 +12,9 @@ returns c = simp (← c .before .plain-no .ensures, ne-eqb _ _ (c .if1 .taken))
 
 returns-2 : tie.Need-returns-2
 unfolding configure
-returns-2 c = simp (sym (c .before .before .before .plain-no .ensures) ∙ c .before .before .if1 .left, c .with-periodic .ensures, c .before .at-least-one .ensures)
+returns-2 c =
+    let at-plain-no = c .before .before .before in
+    simp (sym (at-plain-no .plain-no .ensures) ∙ c .before .before .if1 .left, c .with-periodic .ensures, c .before .at-least-one .ensures)
 
 pub configure-periodic-spec : {M : Type 1} → statement M
 configure-periodic-spec =

@@ -12,15 +12,23 @@ returns c = simp (failed (c .before .is-sized .ensures) (c .if1 .taken))
 
 returns-2 : tie.Need-returns-2
 unfolding sized
-returns-2 c = simp (passed (c .before .before .before .is-sized .ensures) (c .before .before .if1 .left), failed (c .before .is-sized2 .ensures) (c .if2 .taken))
+returns-2 c =
+    let at-is-sized = c .before .before .before in
+    simp (passed (at-is-sized .is-sized .ensures) (c .before .before .if1 .left), failed (c .before .is-sized2 .ensures) (c .if2 .taken))
 
 returns-3 : tie.Need-returns-3
 unfolding sized
-returns-3 c = simp (passed (c .before .before .before .before .is-sized .ensures) (c .before .before .before .if1 .left), passed (c .before .before .is-sized2 .ensures) (c .before .if2 .left), ne-eqb _ _ (c .if3 .taken))
+returns-3 c =
+    let at-if1 = c .before .before .before in
+    let at-is-sized = at-if1 .before in
+    simp (passed (at-is-sized .is-sized .ensures) (at-if1 .if1 .left), passed (c .before .before .is-sized2 .ensures) (c .before .if2 .left), ne-eqb _ _ (c .if3 .taken))
 
 returns-4 : tie.Need-returns-4
 unfolding sized
-returns-4 c = simp (passed (c .before .before .before .before .is-sized .ensures) (c .before .before .before .if1 .left), passed (c .before .before .is-sized2 .ensures) (c .before .if2 .left), eq-eqb _ _ (c .if3 .left))
+returns-4 c =
+    let at-if1 = c .before .before .before in
+    let at-is-sized = at-if1 .before in
+    simp (passed (at-is-sized .is-sized .ensures) (at-if1 .if1 .left), passed (c .before .before .is-sized2 .ensures) (c .before .if2 .left), eq-eqb _ _ (c .if3 .left))
 
 pub are-sized-spec : {M : Type 1} → statement M
 are-sized-spec =

@@ -9,8 +9,10 @@ use Rattle.making.proofs.make.make_no.Tie as tie
 returns : tie.Need-returns
 unfolding makeNo makeTests
 returns c =
-    let a = c .before .before .before .before .args in
-    simp (c .earlier2 .ensures, c .before .are-sized .ensures, c .before .before .earlier .ensures, c .before .before .before .limits-hold .ensures)
+    let at-limits-hold = c .before .before .before in
+    let at-start = at-limits-hold .before in
+    let a = at-start .args in
+    simp (c .earlier2 .ensures, c .before .are-sized .ensures, c .before .before .earlier .ensures, at-limits-hold .limits-hold .ensures)
     (folded (makeTests (a .ring) (a .finished) (a .records) (a .packets) (a .shape) (a .who)) refl)
 
 pub make-no-spec : {M : Type 1} → statement M

@@ -12,19 +12,35 @@ abbrev μ-loop : tie.MeasureT-loop
 μ-loop bytes₀ values₀ full out at number from₀ have₀ line₀ some₀ page₀ turns₀ bytes values from have line some page turns = turns
 
 same-length : tie.Need-same-length Inv-loop μ-loop
-same-length c = c .before .before .before .before .before .before .before .before .more .kept .0 ∙ c .before .before .before .before .before .before .before .before .before .before .before .loop .inv .0
+same-length c =
+    let at-more = c .before .before .before .before .before .before .before .before in
+    let at-loop = at-more .before .before .before in
+    at-more .more .kept .0 ∙ at-loop .loop .inv .0
 
 same-length-2 : tie.Need-same-length-2 Inv-loop μ-loop
-same-length-2 c = c .before .before .before .finish .kept .1 .0 ∙ c .before .before .before .before .before .before .before .before .before .before .before .loop .inv .1
+same-length-2 c =
+    let at-finish = c .before .before .before in
+    let at-loop = at-finish .before .before .before .before .before .before .before .before in
+    at-finish .finish .kept .1 .0 ∙ at-loop .loop .inv .1
 
 same-length-3 : tie.Need-same-length-3 Inv-loop μ-loop
-same-length-3 c = c .before .before .before .before .before .before .before .before .before .before .before .more .kept .0 ∙ c .before .before .before .before .before .before .before .before .before .before .before .before .before .before .loop .inv .0
+same-length-3 c =
+    let at-more = c .before .before .before .before .before .before .before .before .before .before .before in
+    let at-loop = at-more .before .before .before in
+    at-more .more .kept .0 ∙ at-loop .loop .inv .0
 
 same-length-4 : tie.Need-same-length-4 Inv-loop μ-loop
-same-length-4 c = c .before .before .before .before .before .scan-to .kept .1 .1 .1 .1 .0 ∙ c .before .before .before .before .before .before .before .before .before .before .before .before .before .before .loop .inv .1
+same-length-4 c =
+    let at-scan-to = c .before .before .before .before .before in
+    let at-loop = at-scan-to .before .before .before .before .before .before .before .before .before in
+    at-scan-to .scan-to .kept .1 .1 .1 .1 .0 ∙ at-loop .loop .inv .1
 
 loop-again : tie.Need-loop-again Inv-loop μ-loop
-loop-again c = (c .before .before .before .before .before .before .before .before .before .before .more .kept .0 ∙ c .before .before .before .before .before .before .before .before .before .before .before .before .before .loop .inv .0, c .before .before .before .before .scan-to .kept .1 .1 .1 .1 .0 ∙ c .before .before .before .before .before .before .before .before .before .before .before .before .before .loop .inv .1)
+loop-again c =
+    let at-scan-to = c .before .before .before .before in
+    let at-more = at-scan-to .before .before .before .before .before .before in
+    let at-loop = at-more .before .before .before in
+    (at-more .more .kept .0 ∙ at-loop .loop .inv .0, at-scan-to .scan-to .kept .1 .1 .1 .1 .0 ∙ at-loop .loop .inv .1)
 
 pub next-line-spec : {M : Type 1} → statement M
 next-line-spec =

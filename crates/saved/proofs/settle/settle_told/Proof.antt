@@ -13,8 +13,10 @@ use Rattle.saved.proofs.settle.settle_told.Tie as tie
 returns : tie.Need-returns
 unfolding told spoken
 returns c =
-    let a = c .before .before .before .before .before .before .before .before .before .before .args in
-    simp (c .before .before .before .before .before .before .keep .ensures)
+    let at-keep = c .before .before .before .before .before .before in
+    let at-start = at-keep .before .before .before .before in
+    let a = at-start .args in
+    simp (at-keep .keep .ensures)
     (ap (λ (x : ℕ × List ℕ). (x .0, kept (a .t .number) (now (a .state)) (a .e), x .1)) (c .before .before .tell .ensures))
 
 pub settle-told-spec : {M : Type 1} → statement M

@@ -7,7 +7,10 @@ use Rattle.saved.proofs.state.keep.Tie as tie
 
 returns : tie.Need-returns
 unfolding kept
-returns c = simp (sym (c .before .before .before .before .before .moves .ensures) ∙ c .before .before .before .before .if1 .taken, c .before .before .save .ensures)
+returns c =
+    let at-if1 = c .before .before .before .before in
+    let at-moves = at-if1 .before in
+    simp (sym (at-moves .moves .ensures) ∙ at-if1 .if1 .taken, c .before .before .save .ensures)
 
 returns-2 : tie.Need-returns-2
 unfolding kept

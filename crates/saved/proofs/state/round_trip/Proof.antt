@@ -8,8 +8,10 @@ use Rattle.saved.proofs.state.round_trip.Tie as tie
 
 returns : tie.Need-returns
 returns c =
-    let n = c .before .before .before .before .before in
-    c .load .ensures ∙ ap load (c .before .before .before .save .ensures) ∙ load-save (n .before .args .e) (n .narrow .ensures)
+    let at-save = c .before .before .before in
+    let at-before = at-save .before in
+    let n = at-before .before in
+    c .load .ensures ∙ ap load (at-save .save .ensures) ∙ load-save (n .before .args .e) (n .narrow .ensures)
 
 pub round-trip-spec : {M : Type 1} → statement M
 round-trip-spec =

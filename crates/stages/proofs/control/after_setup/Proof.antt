@@ -9,15 +9,23 @@ use Rattle.stages.proofs.control.after_setup.Tie as tie
 
 returns : tie.Need-returns
 returns c =
-    let a = c .before .before .before .before .before .before .before .before .before .before .before .args in
-    simp (c .before .before .before .before .before .before .set-word .ensures, c .before .before .before .before .before .before .before .before .recorded-by .ensures)
-    (data-ends (a .e) (now (a .finished)) (now (a .records)) (a .v) (a .number) (a .seen) _ (sym (c .before .before .before .stage-by .ensures) ∙ ap seenOf (c .before .«data» .given .1)))
+    let at-stage-by = c .before .before .before in
+    let at-set-word = at-stage-by .before .before .before in
+    let at-recorded-by = at-set-word .before .before in
+    let at-start = at-recorded-by .before .before .before in
+    let a = at-start .args in
+    simp (at-set-word .set-word .ensures, at-recorded-by .recorded-by .ensures)
+    (data-ends (a .e) (now (a .finished)) (now (a .records)) (a .v) (a .number) (a .seen) _ (sym (at-stage-by .stage-by .ensures) ∙ ap seenOf (c .before .«data» .given .1)))
 
 returns-2 : tie.Need-returns-2
 returns-2 c =
-    let a = c .before .before .before .before .before .before .before .before .before .before .before .before .args in
-    simp (c .before .before .before .before .before .before .before .set-word .ensures, c .status-by .ensures, c .before .status-seen .ensures, c .before .before .before .before .before .before .before .before .before .recorded-by .ensures)
-    (data-passes (a .e) (now (a .finished)) (now (a .records)) (a .v) (a .number) (a .seen) (sym (c .before .before .before .before .stage-by .ensures) ∙ ap seenOf (c .before .before .enum-told .given .1)))
+    let at-stage-by = c .before .before .before .before in
+    let at-set-word = at-stage-by .before .before .before in
+    let at-recorded-by = at-set-word .before .before in
+    let at-start = at-recorded-by .before .before .before in
+    let a = at-start .args in
+    simp (at-set-word .set-word .ensures, c .status-by .ensures, c .before .status-seen .ensures, at-recorded-by .recorded-by .ensures)
+    (data-passes (a .e) (now (a .finished)) (now (a .records)) (a .v) (a .number) (a .seen) (sym (at-stage-by .stage-by .ensures) ∙ ap seenOf (c .before .before .enum-told .given .1)))
 
 pub after-setup-spec : {M : Type 1} → statement M
 after-setup-spec =

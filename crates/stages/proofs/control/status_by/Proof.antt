@@ -7,7 +7,10 @@ returns : tie.Need-returns
 returns c = simp (c .before .enum-told .given .1, c .unfinished .ensures)
 
 returns-2 : tie.Need-returns-2
-returns-2 c = simp (c .before .before .before .before .before .f .given .1, c .completed .ensures, c .before .is-accepted .ensures, c .before .before .length-of .ensures, c .before .before .before .event-of .ensures)
+returns-2 c =
+    let at-event-of = c .before .before .before in
+    let at-f = at-event-of .before .before in
+    simp (at-f .f .given .1, c .completed .ensures, c .before .is-accepted .ensures, c .before .before .length-of .ensures, at-event-of .event-of .ensures)
 
 pub status-by-spec : {M : Type 1} → statement M
 status-by-spec =

@@ -7,9 +7,13 @@ use Rattle.striding.proofs.deferred.put_deferred_td.Tie as tie
 
 returns : tie.Need-returns
 returns c =
-    let a = c .before .before .before .before .before .before .before .before .before .before .before .before .before .before .before .before .before .before .before .before .before .args in
-    deferred-is (a .shape) (a .chain) (a .p) (a .v) (now (a .ring)) (now (a .finished)) (c .before .before .before .before .before .before .before .before .before .before .before .before .before .before .before .before .before .before .first-trb .ensures) (c .before .before .before .before .before .before .before .before .before .before .before .before .before .before .before .put-deferred .ensures .0)
-    (c .before .before .before .before .before .before .before .before .put-stages .ensures) (c .before .before .set-transfer-trb .ensures)
+    let at-put-stages = c .before .before .before .before .before .before .before .before in
+    let at-put-deferred = at-put-stages .before .before .before .before .before .before .before in
+    let at-first-trb = at-put-deferred .before .before .before in
+    let at-start = at-first-trb .before .before .before in
+    let a = at-start .args in
+    deferred-is (a .shape) (a .chain) (a .p) (a .v) (now (a .ring)) (now (a .finished)) (at-first-trb .first-trb .ensures) (at-put-deferred .put-deferred .ensures .0)
+    (at-put-stages .put-stages .ensures) (c .before .before .set-transfer-trb .ensures)
 
 pub put-deferred-td-spec : {M : Type 1} → statement M
 put-deferred-td-spec =

@@ -17,8 +17,11 @@ link-on-requires c κs =
 
 returns : tie.Need-returns
 returns c =
-    let a = c .before .before .before .before .before .before .before .before .before .before .before .before .before .before .args in
-    (put-is (a .shape) (a .chain) (a .p) (a .trb) (not (a .p .cycle)) (now (a .ring)) (now (a .finished)) (c .before .before .before .before .before .before .before .before .before .before .clear-finished .ensures) (c .before .before .before .before .before .before .enque-transfer-deferred-cycle .ensures) (c .before .before .link-on .ensures .0), c .before .before .link-on .ensures .1)
+    let at-enque-transfer-deferred-cycle = c .before .before .before .before .before .before in
+    let at-clear-finished = at-enque-transfer-deferred-cycle .before .before .before .before in
+    let at-start = at-clear-finished .before .before .before .before in
+    let a = at-start .args in
+    (put-is (a .shape) (a .chain) (a .p) (a .trb) (not (a .p .cycle)) (now (a .ring)) (now (a .finished)) (at-clear-finished .clear-finished .ensures) (at-enque-transfer-deferred-cycle .enque-transfer-deferred-cycle .ensures) (c .before .before .link-on .ensures .0), c .before .before .link-on .ensures .1)
 
 pub put-deferred-spec : {M : Type 1} → statement M
 put-deferred-spec =

@@ -4,7 +4,9 @@ use Rattle.told.proofs.answer.reclaimed.Statement.{statement}
 use Rattle.told.proofs.answer.reclaimed.Tie as tie
 
 returns : tie.Need-returns
-returns c = simp (c .before .before .before .a .given .1, c .before .bit .ensures, c .few .ensures)
+returns c =
+    let at-a = c .before .before .before in
+    simp (at-a .a .given .1, c .before .bit .ensures, c .few .ensures)
 
 returns-2 : tie.Need-returns-2
 returns-2 c = simp (c .before .enum-told .given .1, c .few2 .ensures)

@@ -7,11 +7,15 @@ use Rattle.told.proofs.request.what_of.Tie as tie
 
 returns : tie.Need-returns
 unfolding whatOf
-returns c = simp (eq-eqb _ _ (c .before .before .before .before .before .if1 .taken), c .control .ensures)
+returns c =
+    let at-if1 = c .before .before .before .before .before in
+    simp (eq-eqb _ _ (at-if1 .if1 .taken), c .control .ensures)
 
 returns-2 : tie.Need-returns-2
 unfolding whatOf
-returns-2 c = simp (ne-eqb _ _ (c .before .before .before .if1 .left), c .transfer .ensures)
+returns-2 c =
+    let at-if1 = c .before .before .before in
+    simp (ne-eqb _ _ (at-if1 .if1 .left), c .transfer .ensures)
 
 pub what-of-spec : {M : Type 1} → statement M
 what-of-spec =
