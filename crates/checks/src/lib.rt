@@ -3,7 +3,7 @@
 // Every function here takes any input, but those that go with `strays`: it asks that the records have their size, which `fits_with` tests.
 ghost use mathlib.Core.Path.{_≡_};
 ghost use mathlib.Core.Bool.{not, _&&_};
-ghost use Prim.Native.Nat.{_*_, _≤_, _<_};
+ghost use Prim.Native.Nat.{_≤_, _<_};
 ghost use lib.Dec.{leb};
 ghost use lib.ListN.{length};
 ghost use Rattle.sizes.specs.Sizes.{recordsSize, packetCount};

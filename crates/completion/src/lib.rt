@@ -6,7 +6,7 @@
 ghost use mathlib.Core.Path.{_≡_};
 ghost use Prim.Native.Nat.{_*_};
 ghost use lib.ListN.{length};
-ghost use Rattle.sizes.specs.Sizes.{recordCount, recordWords};
+ghost use Rattle.sizes.specs.Sizes.{recordsSize};
 ghost use Rattle.ids.specs.Lookup.{findIn};
 ghost use Rattle.dock.specs.Cancel.{marked, cancel};
 ghost use Rattle.dock.specs.HandOver.{handOver};
@@ -32,7 +32,7 @@ pub fn hand_over(e: Endpoint, finished: &mut [u32], event: trb::Words) -> Taken
 
 // The record with the id is marked as cancelled.
 fn mark(records: &mut [u64], occupancy: Occupancy, id: u64)
-    requires { ⌜ length (now records) ≡ recordCount * recordWords ⌝ }
+    requires { ⌜ length (now records) ≡ recordsSize ⌝ }
     ensures { λ _. ⌜ now (records .exit) ≡ marked (now (records .entry)) (findIn (now (records .entry)) occupancy id) ⌝ }
 {
     let found = ids::find_id(records, occupancy, id);

@@ -19,17 +19,15 @@ use Rattle.finished.specs.declared.Finished.the-variants as place
 use Rattle.sizes.specs.Sizes.{control, bulk, interrupt, isoch}
 use Rattle.records.specs.Records.{inFlight, stopped, recordedWord, recordAt, setWord}
 use Rattle.records.specs.declared.Record.{Record}
-use Rattle.dock.specs.declared.Completion.{Completion}
 use Rattle.dock.specs.declared.Endpoint.{Endpoint}
-use Rattle.dock.specs.declared.Reclaimed.{Reclaimed}
 use Rattle.dock.specs.declared.Reclaimed.the-variants as answer
 use Rattle.dock.specs.declared.ReclaimedOne.{ReclaimedOne}
-use Rattle.dock.specs.Reclaim.{leave, final, reclaimStopped, completeTests, completion, completeAnswer, complete, nothing, codeOf, bulkBy, reclaimBulk, Seen, onward, ends, stageBy, statusBy, statusPlace, dataSeen, recordedBy, afterStage, recordsAfter, reclaimControl, Swept, unfinished, fatal, found, sweptAnswer, reclaimIso, sweep, reclaimNo, reclaimFlying, reclaimFound, reclaim}
+use Rattle.dock.specs.Reclaim.{final, reclaimStopped, completeTests, complete, nothing, codeOf, bulkBy, reclaimBulk, Seen, onward, ends, stageBy, statusBy, statusPlace, dataSeen, recordedBy, afterStage, recordsAfter, reclaimControl, Swept, unfinished, fatal, found, sweptAnswer, reclaimIso, sweep, reclaimNo, reclaimFlying, reclaimFound, reclaim}
 use Rattle.dock.specs.Worth.{accepted}
 use Rattle.dock.proofs.ReclaimLaws.{over-answer}
 use Rattle.dock.proofs.RefusalLaws.{reclaim-refuses, reclaim-acts}
 
--- ---- an answer that final the request, and one that does not
+-- ---- an answer that ends the request, and one that does not
 
 -- Where the answer is nothing the endpoint is as it was, and it is no refusal.
 record Honest (e : Endpoint) (r : ReclaimedOne) : Type 0 where

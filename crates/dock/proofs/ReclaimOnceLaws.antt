@@ -31,7 +31,6 @@ use Rattle.dock.specs.declared.ReclaimedOne.{ReclaimedOne}
 use Rattle.dock.specs.RowOne.{placesFit, fits, strays, fitsWith}
 use Rattle.dock.specs.State.{withAccount}
 use Rattle.dock.specs.Start.{idTaken}
-use Rattle.dock.specs.Numbers.{reclaimedNumber}
 use Rattle.dock.specs.Reclaim.{final, reclaimStopped, leave, nothing, badRecord, reclaimTests, reclaimNo, reclaimFound, reclaim}
 use Rattle.dock.specs.Cancel.{cancelTests, cancelNo, cancel}
 use Rattle.dock.specs.Retire.{recordTests, recordNo, retiredBelow, retire}
@@ -370,9 +369,9 @@ module _ {s : State} (h : Reached s) (done : retire (s .endpoint) (s .records) .
   has-then : Has t its r
   has-then = retired-has s (reached-sound h) passed r mine
 
-  pub retired-cancelled : reclaimedNumber (reclaim (t .endpoint) (t .finished) (t .records) (t .packets) its .0 .answer) .0 ≡ 7
+  pub retired-cancelled : reclaim (t .endpoint) (t .finished) (t .records) (t .packets) its .0 ≡ reclaimStopped (t .endpoint) (recordAt (t .records) r) r
   retired-cancelled =
-      ap (λ (x : ReclaimedOne × List ℕ × List ℕ). reclaimedNumber (x .0 .answer) .0) (stopped-reclaimed (next h retires) idle-then its r l has-then (retire-stops h done r l mine))
+      ap (λ (x : ReclaimedOne × List ℕ × List ℕ). x .0) (stopped-reclaimed (next h retires) idle-then its r l has-then (retire-stops h done r l mine))
 
   pub retired-once : let u = after t (reclaims its) in reclaim (u .endpoint) (u .finished) (u .records) (u .packets) its ≡ (nothing (u .endpoint), u .records, u .packets)
   retired-once = stopped-once (next h retires) idle-then its r l has-then (retire-stops h done r l mine)

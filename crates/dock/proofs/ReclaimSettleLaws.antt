@@ -14,7 +14,7 @@ use lib.Seq.{getD-set-same}
 use Rattle.base.specs.First.{pick}
 use Rattle.base.proofs.Compare.{same-or-not}
 use Rattle.base.proofs.ReadBack.{read-back, read-back-exact, flag-read}
-use Rattle.sizes.specs.Sizes.{recordCount, packetCount}
+use Rattle.sizes.specs.Sizes.{recordCount, packetCount, packetsSize}
 use Rattle.trb.specs.declared.Words.{Words}
 use Rattle.finished.specs.Finished.{finishedAt}
 use Rattle.finished.specs.declared.Finished.{Finished}
@@ -108,7 +108,7 @@ same-either false p = refl
 
 module _ (number : ℕ) (inside : number < recordCount) where
   abbrev Long : List ℕ → Type 0
-  Long l = recordCount * packetCount ≤ length l
+  Long l = packetsSize ≤ length l
 
   index : (l : List ℕ) (k : ℕ) → Long l → k < packetCount → packetIndex number k < length l
   index l k long small = omega arith

@@ -33,6 +33,11 @@ first-setup e v packets late = rw (eq-eqb (v .kind) control (by-deferred v .so l
 pub first-same : (a b : Endpoint) (v : Record) (packets others : List ℕ) → deferred v ≡ true → firstTrb a v packets ≡ firstTrb b v others
 first-same a b v packets others late = first-setup a v packets late ∙ sym (first-setup b v others late)
 
+-- No link is chained.
+pub unchained : (e : Endpoint) (v : Record) → chained e v ≡ false
+unfolding chained
+unchained e v = refl
+
 -- The link is the same from the first store of a submission to its last.
 pub chain-worked : (e : Endpoint) (v : Record) (p : Position) (frame stored address : ℕ)
     → chained (withStore e p frame (withStored (e .work) stored address)) v ≡ chained e v
@@ -56,5 +61,4 @@ pub isoch-early : (v : Record) → v .kind ≡ isoch → deferred v ≡ false
 isoch-early v kind = if-not (by-deferred v) (λ (q : v .kind ≡ control). omega (arith, kind))
 
 pub isoch-unchained : (e : Endpoint) (v : Record) → v .kind ≡ isoch → chained e v ≡ false
-unfolding chained
-isoch-unchained e v kind = refl
+isoch-unchained e v kind = unchained e v

@@ -1,5 +1,5 @@
 -- Document 01, "What a dock may hold": every limit once, by its name.
-use Prim.Native.Nat.{ℕ, _+_, _*_, _%_, _^_}
+use Prim.Native.Nat.{_+_, _*_, _%_, _^_}
 use mathlib.Core.Bool.{Bool, _&&_}
 use lib.Dec.{leb, eqb}
 use Rattle.sizes.specs.Sizes.{fewestSlots, mostSlots, alignment, trbBytes, mostDci, mostSlotId}

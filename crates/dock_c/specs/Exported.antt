@@ -37,11 +37,11 @@ areWords state answer = isState state && eqb (length answer) answerWords
 -- ---- building
 
 -- The ring's numbers and the identity, from the numbers that the call is given.
-abbrev pub shapeFrom : ℕ → ℕ → Shape
-shapeFrom slots base = record { slots = slots; base = base }
+abbrev pub shapeGiven : ℕ → ℕ → Shape
+shapeGiven slots base = record { slots = slots; base = base }
 
-abbrev pub identityFrom : ℕ → ℕ → ℕ → Identity
-identityFrom mask slot dci = record { slot = slot; dci = dci; mask = mask }
+abbrev pub identityGiven : ℕ → ℕ → ℕ → Identity
+identityGiven mask slot dci = record { slot = slot; dci = dci; mask = mask }
 
 unfoldable pub made : List ℕ → List ℕ → List ℕ → List ℕ → List ℕ → Shape → Identity
     → ℕ × List ℕ × List ℕ × List ℕ × List ℕ × List ℕ

@@ -1,13 +1,13 @@
 // The calls of the dock for programs in C, Rust or any language that calls C: numbers and slices only.
 //
-// A slice crosses as a pointer to its first element and its length. An endpoint is words (`loaded` has how many) that the caller keeps and lends to each call, a
+// A slice crosses as a pointer to its first element and its length. An endpoint is `STATE_WORDS` words that the caller keeps and lends to each call, a
 // request is eight words, and an answer is document 01's number, which is returned, and, for the calls that have values to tell, nine words
 // (crates `loaded` and `told` say which). Nothing is asked of the numbers: words of a wrong length and a request of no kind are answered 1, and any
 // other words are an endpoint or a request. A call that is refused leaves the endpoint's words as they are, even where a save would change them.
 //
 // Each function loads the endpoint, makes the call of its name, saves the endpoint and tells the answer; specs/Exported.antt says so, once each.
 ghost use mathlib.Core.Path.{_≡_};
-ghost use Rattle.dock_c.specs.Exported.{shapeFrom, identityFrom, made, configured, started, storedOne, submitted, handedOver, reclaimed, cancelled, retired, resetBegun, resetEnded, stopped, resumed, pointed};
+ghost use Rattle.dock_c.specs.Exported.{shapeGiven, identityGiven, made, configured, started, storedOne, submitted, handedOver, reclaimed, cancelled, retired, resetBegun, resetEnded, stopped, resumed, pointed};
 use dock::Identity;
 use dock::Shape;
 use loaded::STATE_WORDS;
@@ -36,7 +36,7 @@ pub extern "C" fn thn_make(
     slot: u8,
     dci: u8,
 ) -> u32
-    ensures { λ r. ⌜ (r, now (state .exit), now (ring .exit), now (finished .exit), now (records .exit), now (packets .exit)) ≡ made (now (state .entry)) (now (ring .entry)) (now (finished .entry)) (now (records .entry)) (now (packets .entry)) (shapeFrom slots base) (identityFrom mask slot dci) ⌝ }
+    ensures { λ r. ⌜ (r, now (state .exit), now (ring .exit), now (finished .exit), now (records .exit), now (packets .exit)) ≡ made (now (state .entry)) (now (ring .entry)) (now (finished .entry)) (now (records .entry)) (now (packets .entry)) (shapeGiven slots base) (identityGiven mask slot dci) ⌝ }
 {
     if state.len() != STATE_WORDS {
         return 1;

@@ -1,7 +1,7 @@
 -- Worked examples of the id search and of the lookup, each by computing. Assumes nothing.
 use mathlib.Core.Path.{_≡_, refl}
 use mathlib.Core.List.{[], _∷_}
-use Prim.Native.Nat.{ℕ, _+_, _-_, _^_}
+use Prim.Native.Nat.{ℕ, _-_, _^_}
 use lib.ListN.{getD}
 use Rattle.mask.specs.Occupancy.{none, held, taken}
 use Rattle.mask.specs.declared.Occupancy.{Occupancy}

@@ -3,7 +3,7 @@ ghost use mathlib.Core.Path.{_≡_};
 ghost use Prim.Native.Nat.{_*_, _<_};
 ghost use lib.ListN.{length};
 ghost use Rattle.ids.specs.Order.{afterId};
-ghost use Rattle.sizes.specs.Sizes.{recordCount, recordWords};
+ghost use Rattle.sizes.specs.Sizes.{recordsSize};
 ghost use Rattle.ids.specs.Free.{freeIn, taken};
 ghost use Rattle.ids.specs.Lookup.{findIn};
 use mask::Occupancy;
@@ -29,7 +29,7 @@ pub fn after(id: u64) -> u64
 
 // The first id from `next` on that no held record has. A record is held that the occupancy says, in flight or stopped.
 pub fn free_id(records: &[u64], occupancy: Occupancy, next: u64) -> Taken
-    requires { ⌜ (length (now records) ≡ recordCount * recordWords) × (0 < next) ⌝ }
+    requires { ⌜ (length (now records) ≡ recordsSize) × (0 < next) ⌝ }
     ensures { λ r. ⌜ r ≡ taken (freeIn (now (records .entry)) occupancy next) ⌝ }
 {
     let mut candidate = next;
@@ -54,7 +54,7 @@ pub fn free_id(records: &[u64], occupancy: Occupancy, next: u64) -> Taken
 
 // The held record with the id, the lowest of several.
 pub fn find_id(records: &[u64], occupancy: Occupancy, id: u64) -> Lookup
-    requires { ⌜ length (now records) ≡ recordCount * recordWords ⌝ }
+    requires { ⌜ length (now records) ≡ recordsSize ⌝ }
     ensures { λ r. ⌜ r ≡ findIn (now (records .entry)) occupancy id ⌝ }
 {
     let mut at: usize = 0;

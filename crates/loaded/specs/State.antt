@@ -60,7 +60,13 @@ abbrev pub periodicWords : Periodic → List ℕ
 periodicWords p = p .packet ∷ p .burst ∷ p .interval ∷ p .frame ∷ []
 
 abbrev pub periodicAt : List ℕ → Periodic
-periodicAt w = record { packet = getD w periodicFrom 0 % 2 ^ 16; burst = getD w (periodicFrom + 1) 0 % 2 ^ 8; interval = getD w (periodicFrom + 2) 0 % 2 ^ 8; frame = getD w (periodicFrom + 3) 0 % 2 ^ 16 }
+periodicAt w =
+    record {
+      packet = getD w periodicFrom 0 % 2 ^ 16;
+      burst = getD w (periodicFrom + 1) 0 % 2 ^ 8;
+      interval = getD w (periodicFrom + 2) 0 % 2 ^ 8;
+      frame = getD w (periodicFrom + 3) 0 % 2 ^ 16;
+    }
 
 -- ---- account
 
@@ -68,10 +74,15 @@ abbrev pub accountFrom : ℕ
 accountFrom = periodicFrom + 4
 
 abbrev pub accountWords : Account → List ℕ
-accountWords a = a .next ∷ a .occupancy .first ∷ a .outstanding ∷ []
+accountWords a = a .next ∷ a .occupancy .bits ∷ a .outstanding ∷ []
 
 abbrev pub accountAt : List ℕ → Account
-accountAt w = record { next = getD w accountFrom 0; occupancy = record { first = getD w (accountFrom + 1) 0 }; outstanding = getD w (accountFrom + 2) 0 }
+accountAt w =
+    record {
+      next = getD w accountFrom 0;
+      occupancy = record { bits = getD w (accountFrom + 1) 0 };
+      outstanding = getD w (accountFrom + 2) 0;
+    }
 
 -- ---- flags
 
@@ -93,7 +104,15 @@ abbrev pub workWords : Work → List ℕ
 workWords w = flag (w .busy) ∷ w .number ∷ w .stored ∷ w .address ∷ w .place ∷ flag (w .cycle) ∷ []
 
 abbrev pub workAt : List ℕ → Work
-workAt w = record { busy = isSet (getD w workFrom 0); number = getD w (workFrom + 1) 0; stored = getD w (workFrom + 2) 0; address = getD w (workFrom + 3) 0; place = getD w (workFrom + 4) 0; cycle = isSet (getD w (workFrom + 5) 0) }
+workAt w =
+    record {
+      busy = isSet (getD w workFrom 0);
+      number = getD w (workFrom + 1) 0;
+      stored = getD w (workFrom + 2) 0;
+      address = getD w (workFrom + 3) 0;
+      place = getD w (workFrom + 4) 0;
+      cycle = isSet (getD w (workFrom + 5) 0);
+    }
 
 -- ---- the endpoint
 

@@ -83,7 +83,7 @@ fn account(words: &[u64]) -> Account
     Account {
         next: words[ACCOUNT],
         occupancy: Occupancy {
-            first: words[ACCOUNT + 1],
+            bits: words[ACCOUNT + 1],
         },
         outstanding: words[ACCOUNT + 2],
     }

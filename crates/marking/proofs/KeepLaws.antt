@@ -10,7 +10,7 @@ use lib.Seq.{getD-set-same}
 use Rattle.base.specs.First.{pick}
 use Rattle.base.proofs.Compare.{same-or-not}
 use Rattle.base.proofs.ReadBack.{read-back, flag-read}
-use Rattle.sizes.specs.Sizes.{recordCount, packetCount}
+use Rattle.sizes.specs.Sizes.{recordCount, packetCount, packetsSize}
 use Rattle.packets.specs.Packets.{packetIndex, packetOf, packetFields, packetWord, packetAt, putPacket}
 use Rattle.packets.specs.declared.Packet.{Packet}
 use Rattle.packets.proofs.PacketLaws.{packet-other}
@@ -41,7 +41,7 @@ set-same (x ∷ xs) (suc i) d h = ap (λ l. x ∷ l) (set-same xs i d (omega ari
 
 module _ (number : ℕ) (inside : number < recordCount) where
   abbrev pub Long : List ℕ → Type 0
-  Long l = recordCount * packetCount ≤ length l
+  Long l = packetsSize ≤ length l
 
   put-apart : (l : List ℕ) (j k : ℕ) (p q : Packet) → (j ≡ k → ⊥) → putPacket (putPacket l number j p) number k q ≡ putPacket (putPacket l number k q) number j p
   unfolding putPacket

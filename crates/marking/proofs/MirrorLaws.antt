@@ -14,7 +14,7 @@ use lib.Seq.{getD-set-same, getD-set-other}
 use Rattle.base.specs.First.{pick}
 use Rattle.base.proofs.Compare.{same-or-not}
 use Rattle.base.proofs.Decide.{if-so}
-use Rattle.sizes.specs.Sizes.{mostSlots, recordCount, packetCount}
+use Rattle.sizes.specs.Sizes.{mostSlots, recordCount, packetCount, packetsSize}
 use Rattle.trb.specs.declared.Words.{Words}
 use Rattle.finished.specs.Finished.{finishedAt}
 use Rattle.finished.specs.declared.Finished.{Finished}
@@ -57,7 +57,7 @@ close-none : (l : List ℕ) (number : ℕ) → closeBelow 0 l number ≡ l
 unfolding closeBelow
 close-none l number = refl
 
-module _ (slots : ℕ) (finished : List ℕ) (v : Record) (number : ℕ) (inside : number < recordCount) (l : List ℕ) (long : recordCount * packetCount ≤ length l)
+module _ (slots : ℕ) (finished : List ℕ) (v : Record) (number : ℕ) (inside : number < recordCount) (l : List ℕ) (long : packetsSize ≤ length l)
     (few : v .count ≤ packetCount) (first : ℕ) (low : v .place + 1 < slots) where
   -- Packet j of the block, and the words once the block's packets are put back.
   abbrev held : List Packet → ℕ → Packet

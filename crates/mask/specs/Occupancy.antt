@@ -14,33 +14,33 @@ use Rattle.mask.specs.declared.Occupancy.{Occupancy}
 
 -- No record is held.
 abbrev pub none : Occupancy
-none = record { first = 0 }
+none = record { bits = 0 }
 
 -- Is record i held?
 unfoldable pub held : Occupancy → ℕ → Bool
 unfolding bit
-held o i = eqb (bit (o .first) i) 1
+held o i = eqb (bit (o .bits) i) 1
 
 -- The record that is taken next: "the lowest clear bit is taken".
 unfoldable pub lowest : Occupancy → Found
 unfolding bit clearFrom lowestClear
-lowest o = lowestClear (o .first)
+lowest o = lowestClear (o .bits)
 
 -- Record i is taken,
 unfoldable pub taken : Occupancy → ℕ → Occupancy
 unfolding bit setBit
-taken o i = record { first = setBit (o .first) i }
+taken o i = record { bits = setBit (o .bits) i }
 
 -- and freed.
 unfoldable pub freed : Occupancy → ℕ → Occupancy
 unfolding bit clearBit
-freed o i = record { first = clearBit (o .first) i }
+freed o i = record { bits = clearBit (o .bits) i }
 
 -- ---- what that means
 
--- Every mask is one of 64 bits.
+-- The mask is one of 64 bits.
 pub record Sized (o : Occupancy) : Type 0 where
-  pub first : o .first < 2 ^ 64
+  pub bits : o .bits < 2 ^ 64
 
 -- Of record i p says v, and of every other record what o says.
 pub record HeldIs (o : Occupancy) (i : ℕ) (v : Bool) (p : Occupancy) : Type 0 where

@@ -16,7 +16,7 @@ pub enum Found {
 
 // The held records.
 pub struct Occupancy {
-    pub first: u64,
+    pub bits: u64,
 }
 
 // ---- one mask
@@ -63,7 +63,7 @@ fn without_bit(mask: u64, i: usize) -> u64
 pub fn none() -> Occupancy
     ensures { λ r. ⌜ r ≡ none ⌝ }
 {
-    Occupancy { first: 0 }
+    Occupancy { bits: 0 }
 }
 
 // Is record i held?
@@ -71,14 +71,14 @@ pub fn is_held(o: Occupancy, i: usize) -> bool
     requires { ⌜ i < recordCount ⌝ }
     ensures { λ r. ⌜ r ≡ held o i ⌝ }
 {
-    has_bit(o.first, i)
+    has_bit(o.bits, i)
 }
 
 // The record to take next.
 pub fn lowest(o: Occupancy) -> Found
     ensures { λ r. ⌜ r ≡ lowest o ⌝ }
 {
-    lowest_clear(o.first)
+    lowest_clear(o.bits)
 }
 
 // Record i is taken.
@@ -87,7 +87,7 @@ pub fn taken(o: Occupancy, i: usize) -> Occupancy
     ensures { λ r. ⌜ r ≡ taken o i ⌝ }
 {
     Occupancy {
-        first: with_bit(o.first, i),
+        bits: with_bit(o.bits, i),
     }
 }
 
@@ -97,6 +97,6 @@ pub fn freed(o: Occupancy, i: usize) -> Occupancy
     ensures { λ r. ⌜ r ≡ freed o i ⌝ }
 {
     Occupancy {
-        first: without_bit(o.first, i),
+        bits: without_bit(o.bits, i),
     }
 }

@@ -38,7 +38,7 @@ empty : (n i : ℕ) → finishedAt (replicate n 0) i ≡ Nothing
 unfolding finishedAt
 empty n i = rw (getD-zeros n (4 * i + 3))
 
--- and a slot of zeros is row link.
+-- and a slot of zeros is no link.
 zero-type : (n i : ℕ) → typeOf (wordsAt (replicate n 0) i) ≡ 0
 unfolding typeOf wordsAt
 zero-type n i = rw (getD-zeros n (4 * i + 3))

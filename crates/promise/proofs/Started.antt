@@ -25,7 +25,7 @@ use Rattle.dock.specs.declared.Request.{Request}
 use Rattle.dock.specs.declared.What.{What}
 use Rattle.dock.specs.declared.What.the-variants as asks
 use Rattle.dock.specs.RowOne.{flies}
-use Rattle.dock.specs.Requests.{kindOf, required, withWhat, recordFor}
+use Rattle.dock.specs.Requests.{required, withWhat, recordFor}
 use Rattle.dock.specs.Start.{startNo, recordTaken, idTaken, charged, writePackets, startedEndpoint, startedRecords}
 use Rattle.dock.specs.Trbs.{trbCount, deferred, chained}
 use Rattle.dock.proofs.ReachedBookLaws.{by-flies}

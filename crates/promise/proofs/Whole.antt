@@ -15,10 +15,8 @@ use Rattle.base.proofs.Decide.{if-so, both, by-eqb}
 use Rattle.ids.proofs.AnyLaws.{true-or-false}
 use Rattle.dock.specs.declared.Changed.{Changed}
 use Rattle.dock.specs.declared.Endpoint.{Endpoint}
-use Rattle.dock.specs.declared.Identity.{Identity}
 use Rattle.dock.specs.declared.ReclaimedOne.{ReclaimedOne}
 use Rattle.dock.specs.declared.Request.{Request}
-use Rattle.dock.specs.declared.Shape.{Shape}
 use Rattle.dock.specs.declared.Stored.{Stored}
 use Rattle.dock.specs.declared.StoredAll.{StoredAll}
 use Rattle.dock.specs.declared.StoredOne.{StoredOne}

@@ -17,7 +17,6 @@ use Rattle.ring.specs.Ring.{slotAddress}
 use Rattle.records.specs.Records.{recordAt}
 use Rattle.records.specs.declared.Record.{Record}
 use Rattle.dock.specs.declared.Request.{Request}
-use Rattle.dock.specs.declared.Shape.{Shape}
 use Rattle.dock.specs.HandOver.{handOverNo}
 use Rattle.dock.specs.Reclaim.{codeOf}
 use Rattle.dock.specs.Run.{State, Made, Call, configures, starts, stores, submits, reclaims, cancels, retires, begins, ends, stops, resumes, points, after}

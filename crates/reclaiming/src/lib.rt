@@ -5,15 +5,13 @@
 // freed and its TRBs leave flight.
 //
 // `reclaim_request` takes any endpoint, tables and numbers: it tests what it needs, and what it answers and leaves is its definition in `dock`.
-ghost use Rattle.dock.specs.Reclaim.{reclaim};
-use ids::Lookup;
 ghost use mathlib.Core.Path.{_≡_};
 ghost use mathlib.Core.Bool.{false};
 ghost use Prim.Native.Nat.{_≤_};
 ghost use lib.ListN.{length};
 ghost use Rattle.sizes.specs.Sizes.{recordsSize, packetCount, packetsSize, isoch};
 ghost use Rattle.records.specs.Records.{recordAt};
-ghost use Rattle.dock.specs.Reclaim.{reclaimFlying};
+ghost use Rattle.dock.specs.Reclaim.{reclaimFlying, reclaim};
 ghost use Rattle.checks.specs.Shown.{Shown};
 ghost use Rattle.refusal.specs.Misplaced.{misplaced};
 ghost use Rattle.reclaiming.specs.Parts.{reclaimAt};
@@ -21,6 +19,7 @@ use completing::unfinished;
 use dock::Endpoint;
 use dock::Reclaimed;
 use dock::ReclaimedOne;
+use ids::Lookup;
 use records::IN_FLIGHT;
 use records::Record;
 use records::STOPPED;

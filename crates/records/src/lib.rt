@@ -5,7 +5,7 @@ ghost use Prim.Native.Nat.{_+_, _*_, _<_};
 ghost use lib.ListN.{length};
 ghost use Rattle.base.specs.Fields.{flag};
 ghost use Rattle.base.specs.Part.{filled, put};
-ghost use Rattle.sizes.specs.Sizes.{recordCount, recordWords};
+ghost use Rattle.sizes.specs.Sizes.{recordCount, recordWords, recordsSize};
 ghost use Rattle.records.specs.Records.{recordOf, partOf, recordAt, recordList, setWord};
 use sizes::RECORD_WORDS;
 
@@ -59,7 +59,7 @@ fn record_of(part: &[u64]) -> Record
 }
 
 pub fn record_at(records: &[u64], r: usize) -> Record
-    requires { ⌜ (length (now records) ≡ recordCount * recordWords) × (r < recordCount) ⌝ }
+    requires { ⌜ (length (now records) ≡ recordsSize) × (r < recordCount) ⌝ }
     ensures { λ v. ⌜ v ≡ recordAt (now (records .entry)) r ⌝ }
 {
     let start = RECORD_WORDS * r;
@@ -98,7 +98,7 @@ fn fill(part: &mut [u64], v: Record) -> bool
 
 // A record's words, all of them anew.
 pub fn put_record(records: &mut [u64], r: usize, v: Record)
-    requires { ⌜ (length (now records) ≡ recordCount * recordWords) × (r < recordCount) ⌝ }
+    requires { ⌜ (length (now records) ≡ recordsSize) × (r < recordCount) ⌝ }
     ensures { λ _. ⌜ now (records .exit) ≡ put recordWords (now (records .entry)) r (recordList v) ⌝ }
 {
     let start = RECORD_WORDS * r;
@@ -107,7 +107,7 @@ pub fn put_record(records: &mut [u64], r: usize, v: Record)
 
 // One word of a record.
 pub fn set_word(records: &mut [u64], r: usize, word: usize, value: u64)
-    requires { ⌜ (length (now records) ≡ recordCount * recordWords) × (r < recordCount) × (word < recordWords) ⌝ }
+    requires { ⌜ (length (now records) ≡ recordsSize) × (r < recordCount) × (word < recordWords) ⌝ }
     ensures { λ _. ⌜ now (records .exit) ≡ setWord (now (records .entry)) r word value ⌝ }
 {
     let at = RECORD_WORDS * r + word;

@@ -12,7 +12,7 @@ use Rattle.base.specs.First.{pick}
 use Rattle.base.proofs.Chosen.{quiet}
 use Rattle.mask.specs.Occupancy.{held}
 use Rattle.mask.specs.declared.Occupancy.{Occupancy}
-use Rattle.sizes.specs.Sizes.{ringSize, recordCount, recordWords, recordsSize, packetCount, packetsSize, isoch}
+use Rattle.sizes.specs.Sizes.{ringSize, recordCount, recordsSize, packetCount, packetsSize, isoch}
 use Rattle.ids.specs.Free.{idAt, heldBy}
 use Rattle.ids.specs.Lookup.{findIn, Finds}
 use Rattle.ids.specs.declared.Lookup.the-variants.{At}
@@ -82,7 +82,7 @@ handed e finished w none =
 
 -- ---- a cancel
 
-pub cancel-sized : (e : Endpoint) (records : List ℕ) (id : ℕ) → cancelNo e records id ≡ 0 → length records ≡ recordCount * recordWords
+pub cancel-sized : (e : Endpoint) (records : List ℕ) (id : ℕ) → cancelNo e records id ≡ 0 → length records ≡ recordsSize
 unfolding cancelNo cancelTests
 cancel-sized e records id none =
     fit-with e records (not-false _ (quiet (cancelTests e records id) 0 refl none (omega arith))) .size

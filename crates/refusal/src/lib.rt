@@ -4,7 +4,7 @@ ghost use mathlib.Core.Bool.{_&&_};
 ghost use Prim.Native.Nat.{_*_};
 ghost use lib.Dec.{eqb};
 ghost use lib.ListN.{length};
-ghost use Rattle.sizes.specs.Sizes.{ringSize, recordCount, recordWords, packetsSize};
+ghost use Rattle.sizes.specs.Sizes.{ringSize, recordsSize, packetsSize};
 ghost use Rattle.ids.specs.Lookup.{findIn};
 ghost use Rattle.dock.specs.RowOne.{fits, fitsWith};
 ghost use Rattle.dock.specs.HandOver.{slotFor, slotNumber, foreign, handOverNo};
@@ -86,7 +86,7 @@ pub fn hand_over_no(e: Endpoint, finished: usize, w: Words) -> u32
 
 // The id is that of no record in flight.
 fn is_grounded(records: &[u64], occupancy: Occupancy, id: u64) -> bool
-    requires { ⌜ length (now records) ≡ recordCount * recordWords ⌝ }
+    requires { ⌜ length (now records) ≡ recordsSize ⌝ }
     ensures { λ r. ⌜ r ≡ notFlying (now (records .entry)) (findIn (now (records .entry)) occupancy id) ⌝ }
 {
     let found = ids::find_id(records, occupancy, id);
@@ -144,7 +144,7 @@ fn is_misplaced(slots: usize, v: Record) -> bool
 }
 
 fn is_bad(e: Endpoint, records: &[u64], id: u64) -> bool
-    requires { ⌜ length (now records) ≡ recordCount * recordWords ⌝ }
+    requires { ⌜ length (now records) ≡ recordsSize ⌝ }
     ensures { λ r. ⌜ r ≡ badRecord e (now (records .entry)) (findIn (now (records .entry)) (e .account .occupancy) id) ⌝ }
 {
     let found = ids::find_id(records, e.account.occupancy, id);

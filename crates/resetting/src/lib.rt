@@ -3,7 +3,7 @@ ghost use mathlib.Core.Path.{_≡_};
 ghost use Prim.Native.Nat.{_+_, _-_, _*_, _<_};
 ghost use mathlib.Core.Bool.{_&&_};
 ghost use lib.ListN.{length};
-ghost use Rattle.sizes.specs.Sizes.{recordCount, recordWords};
+ghost use Rattle.sizes.specs.Sizes.{recordCount, recordsSize};
 ghost use Rattle.ids.specs.Free.{any};
 ghost use Rattle.dock.specs.RowOne.{flies};
 ghost use Rattle.dock.specs.Reset.{beginNo, beginReset, endNo, endReset};
@@ -19,7 +19,7 @@ use sizes::RECORD_COUNT;
 
 // Is some request in flight?
 fn some_flying(records: &[u64], occupancy: Occupancy) -> bool
-    requires { ⌜ length (now records) ≡ recordCount * recordWords ⌝ }
+    requires { ⌜ length (now records) ≡ recordsSize ⌝ }
     ensures { λ b. ⌜ b ≡ any recordCount (flies (now (records .entry)) occupancy) ⌝ }
 {
     let mut r: usize = 0;
@@ -34,7 +34,7 @@ fn some_flying(records: &[u64], occupancy: Occupancy) -> bool
 
 // Are there requests in flight, or TRBs outstanding?
 fn is_occupied(records: &[u64], occupancy: Occupancy, outstanding: u64) -> bool
-    requires { ⌜ length (now records) ≡ recordCount * recordWords ⌝ }
+    requires { ⌜ length (now records) ≡ recordsSize ⌝ }
     ensures { λ b. ⌜ b ≡ occupiedBy (now (records .entry)) occupancy outstanding ⌝ }
 {
     if some_flying(records, occupancy) {

@@ -2,7 +2,7 @@
 ghost use mathlib.Core.Path.{_≡_};
 ghost use Prim.Native.Nat.{_+_, _-_, _*_, _<_};
 ghost use lib.ListN.{length};
-ghost use Rattle.sizes.specs.Sizes.{recordCount, recordWords};
+ghost use Rattle.sizes.specs.Sizes.{recordCount, recordsSize};
 ghost use Rattle.dock.specs.RowOne.{flies};
 ghost use Rattle.dock.specs.Retire.{retiredBelow, retire};
 ghost use Rattle.retiring.specs.Steps.{retireOne};
@@ -18,7 +18,7 @@ use sizes::RECORD_COUNT;
 
 // Is the record held, and its request in flight?
 pub fn is_flying(records: &[u64], occupancy: Occupancy, r: usize) -> bool
-    requires { ⌜ (length (now records) ≡ recordCount * recordWords) × (r < recordCount) ⌝ }
+    requires { ⌜ (length (now records) ≡ recordsSize) × (r < recordCount) ⌝ }
     ensures { λ b. ⌜ b ≡ flies (now (records .entry)) occupancy r ⌝ }
 {
     if !mask::is_held(occupancy, r) {
@@ -40,7 +40,7 @@ fn less(a: u64, b: u64) -> u64
 
 // One record: a request in flight becomes stopped, and its TRBs leave outstanding.
 fn retire_one(records: &mut [u64], occupancy: Occupancy, outstanding: u64, r: usize) -> u64
-    requires { ⌜ (length (now records) ≡ recordCount * recordWords) × (r < recordCount) ⌝ }
+    requires { ⌜ (length (now records) ≡ recordsSize) × (r < recordCount) ⌝ }
     ensures { λ out. ⌜ (out, now (records .exit)) ≡ retireOne occupancy outstanding (now (records .entry)) r ⌝ }
 {
     if !is_flying(records, occupancy, r) {
@@ -53,7 +53,7 @@ fn retire_one(records: &mut [u64], occupancy: Occupancy, outstanding: u64, r: us
 
 // Every record, one after the other.
 fn retire_all(records: &mut [u64], occupancy: Occupancy, outstanding: u64) -> u64
-    requires { ⌜ length (now records) ≡ recordCount * recordWords ⌝ }
+    requires { ⌜ length (now records) ≡ recordsSize ⌝ }
     ensures { λ out. ⌜ (out, now (records .exit)) ≡ retiredBelow recordCount occupancy outstanding (now (records .entry)) ⌝ }
 {
     let mut out = outstanding;

@@ -72,7 +72,7 @@ fn put_account(words: &mut [u64], a: Account)
     ensures { λ _. ⌜ now (words .exit) ≡ sets (now (words .entry)) accountFrom (accountWords a) ⌝ }
 {
     words[ACCOUNT] = a.next;
-    words[ACCOUNT + 1] = a.occupancy.first;
+    words[ACCOUNT + 1] = a.occupancy.bits;
     words[ACCOUNT + 2] = a.outstanding;
 }
 

@@ -1,4 +1,4 @@
--- Every number of "What a dock may hold", as document 01 writes it. Assumes nothing.
+-- The numbers, as document 01 writes them. Assumes nothing.
 use mathlib.Core.Path.{_≡_, refl}
 use Rattle.sizes.specs.Sizes.{fewestSlots, mostSlots, alignment, trbBytes, trbWords, mostDci, mostSlotId, capacity, ringSize, recordCount, recordWords, recordsSize, packetCount, packetsSize, longest, longestControl, frames, control, bulk, interrupt, isoch}
 

@@ -1,2 +1,2 @@
--- The numbers of "What a dock may hold".
+-- The numbers of document 01.
 pub mod Sizes

@@ -1,4 +1,5 @@
--- Document 01, "What a dock may hold": every number once, by its name. src/lib.rt has the same for the code.
+-- The numbers of document 01, most of them of "What a dock may hold", and the kinds of a request, each once, by its name. src/lib.rt has the same for the
+-- code.
 use Prim.Native.Nat.{ℕ, _-_, _*_}
 
 -- "Slots L: 3 to 4,096."

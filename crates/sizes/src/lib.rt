@@ -1,5 +1,5 @@
-// What a dock may hold, every number of it once: the constants here, for the code; the same by the same name in specs/Sizes.antt, for the definitions.
-// No function.
+// The numbers of document 01, most of them of "What a dock may hold", and the kinds of a request, each once: the constants here, for the code; the same by
+// the same name in specs/Sizes.antt, for the definitions (a slot id is a u8, so that its largest needs no constant). No function.
 
 // "Slots L: 3 to 4,096."
 pub const FEWEST_SLOTS: usize = 3;

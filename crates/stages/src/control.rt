@@ -4,7 +4,7 @@ ghost use Prim.Native.Nat.{_+_, _*_, _%_, _^_, _≤_, _<_};
 ghost use lib.Dec.{eqb};
 ghost use lib.ListN.{length};
 ghost use Rattle.base.specs.First.{pick};
-ghost use Rattle.sizes.specs.Sizes.{recordCount, recordWords};
+ghost use Rattle.sizes.specs.Sizes.{recordCount, recordsSize};
 ghost use Rattle.finished.specs.Finished.{finishedAt};
 ghost use Rattle.dock.specs.Reclaim.{stageBy, statusBy, recordedBy, recordedLength, placeOf, statusPlace, dataSeen, reclaimControl};
 ghost use Rattle.checks.specs.Shown.{Shown};
@@ -133,7 +133,7 @@ fn after_setup(
     v: Record,
     number: usize,
 ) -> ReclaimedOne
-    requires { ⌜ (Shown (e .shape .slots) (length (now finished)) (v .place) number) × (length (now records) ≡ recordCount * recordWords) ⌝ }
+    requires { ⌜ (Shown (e .shape .slots) (length (now finished)) (v .place) number) × (length (now records) ≡ recordsSize) ⌝ }
     ensures { λ r. ⌜ (r, now (records .exit)) ≡ afterSetup seen e (now (finished .entry)) (now (records .entry)) v number ⌝ }
 {
     let recorded = recorded_by(seen, v);
@@ -155,7 +155,7 @@ pub fn reclaim_control(
     v: Record,
     number: usize,
 ) -> ReclaimedOne
-    requires { ⌜ (Shown (e .shape .slots) (length (now finished)) (v .place) number) × (length (now records) ≡ recordCount * recordWords) ⌝ }
+    requires { ⌜ (Shown (e .shape .slots) (length (now finished)) (v .place) number) × (length (now records) ≡ recordsSize) ⌝ }
     ensures { λ r. ⌜ (r, now (records .exit)) ≡ reclaimControl e (now (finished .entry)) (now (records .entry)) v number ⌝ }
 {
     let place = v.place as usize;

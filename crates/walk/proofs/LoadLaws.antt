@@ -9,7 +9,7 @@ use native.Mathlib.Omega.{arith}
 use lib.ListN.{length, getD, set, length-set, length-replicate}
 use lib.Seq.{getD-set-same, getD-set-other}
 use Rattle.base.proofs.Compare.{same-or-not}
-use Rattle.sizes.specs.Sizes.{recordCount, packetCount}
+use Rattle.sizes.specs.Sizes.{packetCount, packetsSize}
 use Rattle.packets.specs.Packets.{packetAt}
 use Rattle.packets.specs.declared.Packet.{Packet}
 use Rattle.records.specs.declared.Record.{Record}
@@ -55,7 +55,7 @@ keep-more n l number ps = rw (add-one n) refl
 
 -- ---- the whole walk
 
-module _ (slots : ℕ) (finished : List ℕ) (v : Record) (number : ℕ) (l : List ℕ) (flying : Shown slots (length finished) (v .place) number) (long : length l ≡ recordCount * packetCount)
+module _ (slots : ℕ) (finished : List ℕ) (v : Record) (number : ℕ) (l : List ℕ) (flying : Shown slots (length finished) (v .place) number) (long : length l ≡ packetsSize)
     (few : v .count ≤ packetCount) where
   abbrev its : Block
   its = record { first = 0; count = v .count; place = v .place; slots = slots }

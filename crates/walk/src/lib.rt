@@ -3,7 +3,7 @@
 ghost use mathlib.Core.Path.{_≡_};
 ghost use Prim.Native.Nat.{_*_, _≤_, _<_};
 ghost use lib.ListN.{length, getD};
-ghost use Rattle.sizes.specs.Sizes.{recordCount, packetCount};
+ghost use Rattle.sizes.specs.Sizes.{recordCount, packetCount, packetsSize};
 ghost use Rattle.dock.specs.Reclaim.{total, sweep, reclaimIso};
 ghost use Rattle.marking.specs.Marking.{nowhere};
 ghost use Rattle.marking.specs.Words.{sweptBy, keepOne, keepBelow};
@@ -31,7 +31,7 @@ pub enum Walk {
 
 // The first packets of a record, out of their words.
 fn load(packets: &[u64], number: usize, count: usize) -> [Packet; PACKET_COUNT]
-    requires { ⌜ (length (now packets) ≡ recordCount * packetCount) × (number < recordCount) × (count ≤ packetCount) ⌝ }
+    requires { ⌜ (length (now packets) ≡ packetsSize) × (number < recordCount) × (count ≤ packetCount) ⌝ }
     ensures { λ r. ⌜ r ≡ loaded count (now (packets .entry)) number ⌝ }
 {
     let none = Packet {
@@ -51,7 +51,7 @@ fn load(packets: &[u64], number: usize, count: usize) -> [Packet; PACKET_COUNT]
 
 // A packet goes back into its word where it has been marked.
 fn keep(packets: &mut [u64], number: usize, k: usize, p: Packet)
-    requires { ⌜ (length (now packets) ≡ recordCount * packetCount) × (number < recordCount) × (k < packetCount) ⌝ }
+    requires { ⌜ (length (now packets) ≡ packetsSize) × (number < recordCount) × (k < packetCount) ⌝ }
     ensures { λ _. ⌜ now (packets .exit) ≡ keepOne (now (packets .entry)) number k p ⌝ }
 {
     let was = packets::packet_at(packets, number, k);
@@ -64,7 +64,7 @@ fn keep(packets: &mut [u64], number: usize, k: usize, p: Packet)
 }
 
 fn keep_all(packets: &mut [u64], number: usize, count: usize, held: [Packet; PACKET_COUNT])
-    requires { ⌜ (length (now packets) ≡ recordCount * packetCount) × (number < recordCount) × (count ≤ packetCount) ⌝ }
+    requires { ⌜ (length (now packets) ≡ packetsSize) × (number < recordCount) × (count ≤ packetCount) ⌝ }
     ensures { λ _. ⌜ now (packets .exit) ≡ keepBelow count (now (packets .entry)) number (λ j. getD held j nowhere) ⌝ }
 {
     let mut i: usize = 0;
@@ -77,7 +77,7 @@ fn keep_all(packets: &mut [u64], number: usize, count: usize, held: [Packet; PAC
 
 // The bytes of the first k packets.
 fn total_of(packets: &[u64], number: usize, k: usize) -> u64
-    requires { ⌜ (length (now packets) ≡ recordCount * packetCount) × (number < recordCount) × (k ≤ packetCount) ⌝ }
+    requires { ⌜ (length (now packets) ≡ packetsSize) × (number < recordCount) × (k ≤ packetCount) ⌝ }
     ensures { λ r. ⌜ r ≡ total k (now (packets .entry)) number ⌝ }
 {
     let mut sum: u64 = 0;
@@ -105,7 +105,7 @@ fn told(s: Standing) -> Walk
 
 // The walk over the record's packets.
 fn walk_over(slots: usize, finished: &[u32], packets: &mut [u64], v: Record, number: usize) -> Walk
-    requires { ⌜ (Shown slots (length (now finished)) (v .place) number) × (length (now packets) ≡ recordCount * packetCount) × (v .count ≤ packetCount) ⌝ }
+    requires { ⌜ (Shown slots (length (now finished)) (v .place) number) × (length (now packets) ≡ packetsSize) × (v .count ≤ packetCount) ⌝ }
     ensures { λ r. ⌜ (sweptOf r, now (packets .exit)) ≡ sweep slots (now (finished .entry)) v number (v .count) 0 (now (packets .entry)) ⌝ }
 {
     let count = v.count as usize;
@@ -129,7 +129,7 @@ pub fn reclaim_iso(
     v: Record,
     number: usize,
 ) -> ReclaimedOne
-    requires { ⌜ (Shown (e .shape .slots) (length (now finished)) (v .place) number) × (length (now packets) ≡ recordCount * packetCount) × (v .count ≤ packetCount) ⌝ }
+    requires { ⌜ (Shown (e .shape .slots) (length (now finished)) (v .place) number) × (length (now packets) ≡ packetsSize) × (v .count ≤ packetCount) ⌝ }
     ensures { λ r. ⌜ (r, now (packets .exit)) ≡ reclaimIso e (now (finished .entry)) (now (packets .entry)) v number ⌝ }
 {
     let swept = walk_over(e.shape.slots, finished, packets, v, number);
