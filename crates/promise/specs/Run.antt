@@ -55,7 +55,7 @@ pub data Part : Type 0 where
   aside : Part
   outside : Part
 
--- A whole submission comes as its start and stores, and an event as a move of its own, with the number of its TRB. Retire and reset are not in these runs.
+-- A whole submission comes as its start and stores, and an event as a move of its own, with the turn of its TRB. Retire and reset are not in these runs.
 abbrev pub part : Call → Part
 part (configures packet burst interval) = aside
 part (starts request lengths) = opening request lengths
@@ -120,7 +120,7 @@ stepped w =
     let x = does (w .dock .ring) c in
     record { dock = w .dock; controller = goes x c; consumed = with x c (w .consumed); trbs = w .trbs; first = w .first; heard = w .heard }
 
--- An event is handed over with the number of the TRB that it is for, counted from 0 in the order of consumption.
+-- An event is handed over with the turn of the TRB that it is for, counted from 0 in the order of consumption.
 pub data Move : Type 0 where
   calls : Call → Move
   hands : (event : Words) (nth : ℕ) → Move
