@@ -40,7 +40,7 @@ use Rattle.dock.proofs.StartStoreLaws.{count-is}
 use Rattle.dock.proofs.RefusalTestLaws.{by-too-long-control, by-too-long-bulk, by-too-long-interrupt}
 use Rattle.order.specs.Flat.{flat, linkType}
 use Rattle.order.specs.Model.{Plain}
-use Rattle.promise.specs.Requested.{stored, some, controlTrbs, normalTrbs, isochTrbs, trbsFor, trbsOf, typed}
+use Rattle.promise.specs.Requested.{addressStored, some, controlTrbs, normalTrbs, isochTrbs, trbsFor, trbsOf, typed}
 use Rattle.promise.proofs.Kept.{upcoming}
 use Rattle.promise.proofs.Laid.{bare, bared}
 
@@ -259,7 +259,7 @@ trbs-count p request lengths = counted (request .what) (request .address) (reque
     counted (asks.Bulk incoming) address size = refl
     counted (asks.Interrupt incoming) address size = refl
     counted (asks.Isoch incoming) address size =
-        isoch-count incoming (p .packet) (p .burst) (stored address size) (atLeastOne lengths) ∙ at-least lengths
+        isoch-count incoming (p .packet) (p .burst) (addressStored address size) (atLeastOne lengths) ∙ at-least lengths
 
 -- ---- none is a link
 
@@ -287,7 +287,7 @@ module _ (K : ℕ) where
           control-plain type request value index address size (eqb (bits 7 1 type) 1)
       plain (asks.Bulk incoming) address size = (plain-trb _ (λ q. omega arith), tt)
       plain (asks.Interrupt incoming) address size = (plain-trb _ (λ q. omega arith), tt)
-      plain (asks.Isoch incoming) address size = isoch-plain incoming (p .packet) (p .burst) (stored address size) (atLeastOne lengths)
+      plain (asks.Isoch incoming) address size = isoch-plain incoming (p .packet) (p .burst) (addressStored address size) (atLeastOne lengths)
 
 pub link-is : (base : ℕ) (chain : Bool) → linkType (bare (linkTrb base chain)) ≡ true
 unfolding linkType

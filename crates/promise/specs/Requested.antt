@@ -19,8 +19,8 @@ use Rattle.promise.specs.Controller.{Entry}
 -- ---- the TRBs of a request
 
 -- "With a data length of 0 the address stored is 0."
-abbrev pub stored : ℕ → ℕ → ℕ
-stored address size = pick (eqb size 0) 0 address
+abbrev pub addressStored : ℕ → ℕ → ℕ
+addressStored address size = pick (eqb size 0) 0 address
 
 -- "Setup: bits 16-17 = 0 no data, 2 out, 3 in. Data: short interrupt and bit 16 when in. Status: bit 16 clear exactly for in with data."
 abbrev pub controlTrbs : ℕ → ℕ → ℕ → ℕ → ℕ → ℕ → Bool → List Trb
@@ -31,7 +31,7 @@ controlTrbs type request value index address size incoming =
 
 -- "Normal: address, length, w3 bits 2 and 5."
 abbrev pub normalTrbs : ℕ → ℕ → List Trb
-normalTrbs address size = Normal (stored address size) size 0 0 true false true ∷ []
+normalTrbs address size = Normal (addressStored address size) size 0 0 true false true ∷ []
 
 abbrev pub some : List ℕ → Bool
 some [] = false
@@ -50,7 +50,7 @@ abbrev pub trbsFor : Periodic → What → ℕ → ℕ → List ℕ → List Trb
 trbsFor p (asks.Control type request value index) address size lengths = controlTrbs type request value index address size (eqb (bits 7 1 type) 1)
 trbsFor p (asks.Bulk incoming) address size lengths = normalTrbs address size
 trbsFor p (asks.Interrupt incoming) address size lengths = normalTrbs address size
-trbsFor p (asks.Isoch incoming) address size lengths = isochTrbs incoming (p .packet) (p .burst) (stored address size) (atLeastOne lengths)
+trbsFor p (asks.Isoch incoming) address size lengths = isochTrbs incoming (p .packet) (p .burst) (addressStored address size) (atLeastOne lengths)
 
 abbrev pub trbsOf : Periodic → Request → List ℕ → List Trb
 trbsOf p request lengths = trbsFor p (request .what) (request .address) (request .length) lengths
