@@ -1,4 +1,4 @@
--- Every call that is refused answers its number, with no value, and leaves the state as it was (`refused-leaves`). Assumes nothing.
+-- In a sound state every call that is refused answers its number, with no value, and leaves the state as it was (`refused-leaves`). Assumes nothing.
 use Prim.Native.Nat.{ℕ}
 use mathlib.Core.Bool.{true, _&&_}
 use mathlib.Core.List.{List, []}

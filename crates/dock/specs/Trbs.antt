@@ -1,4 +1,5 @@
--- The TRBs of a request, computed from its record and its packets. Document 01, "Words of a TRB" and "The order of stores".
+-- The TRBs of a request, computed from its record and its packets. Document 01, "Words of a TRB" and "The order of stores". Those that say how data moves are
+-- given the endpoint, whether a field needs it or not.
 use Prim.Native.Nat.{ℕ, _+_, _%_, _^_, min, max}
 use mathlib.Core.Bool.{Bool, true, false, not, _&&_}
 use mathlib.Core.List.{List}

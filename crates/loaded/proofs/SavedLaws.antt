@@ -5,15 +5,10 @@ use mathlib.Core.List.{List}
 use mathlib.Core.Path.{_≡_, refl, sym, ap, _∙_}
 use native.Mathlib.Nat.{mod-eq-of-lt}
 use lib.ListN.{length}
-use Rattle.base.specs.Fields.{flag}
 use Rattle.base.specs.First.{pick}
-use Rattle.records.specs.Records.{isSet}
+use Rattle.records.proofs.RecordLaws.{flag-set}
 use Rattle.dock.specs.declared.Endpoint.{Endpoint}
 use Rattle.loaded.specs.State.{Narrow, stateWords, load, save, moves, kept}
-
-flag-set : (b : Bool) → isSet (flag b) ≡ b
-flag-set true = refl
-flag-set false = refl
 
 pub load-save : (e : Endpoint) → Narrow e → load (save e) ≡ e
 unfolding load save

@@ -51,7 +51,8 @@ of-part l r =
     (same-record (λ k. getD (take recordWords (drop (recordWords * r) l)) k 0) (wordAt l r) (λ k h. getD-take recordWords (drop (recordWords * r) l) k 0 h ∙ getD-drop (recordWords * r) l k 0)
     ∙ sym (by-words l r))
 
-flag-set : (b : Bool) → isSet (flag b) ≡ b
+-- A flag is read back from its word.
+pub flag-set : (b : Bool) → isSet (flag b) ≡ b
 flag-set true = refl
 flag-set false = refl
 
