@@ -1,4 +1,4 @@
-// The start of a submission: "it stores no TRB; it takes id, record and count, and writes the record's packets anew, unmarked".
+// "The start of a submission stores no TRB; it takes id, record and count, and writes the record's packets anew, unmarked."
 ghost use mathlib.Core.Path.{_≡_};
 ghost use Rattle.dock.specs.Start.{start};
 use dock::Changed;

@@ -91,7 +91,7 @@ module _ (e : Endpoint) where
     unfolding reclaimTests reclaimNo
     reclaim-rows finished packets id = refl
 
--- The rows of a submission, "1, 12, then 2 (reset), 2 (capacity), 3, 4, 5": each is answered where it is the first that holds.
+-- The rows of a submission, "1, 12, then for a submission 2 (reset), 2 (capacity), 3, 4, 5": each is answered where it is the first that holds.
 module _ (e : Endpoint) (records packets : List ℕ) (request : Request) (lengths : List ℕ) where
   abbrev fit : Bool
   fit = fitsWith e records && eqb (length packets) packetsSize

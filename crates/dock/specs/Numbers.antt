@@ -42,7 +42,7 @@ abbrev pub takenNumber : Taken → Numbered
 takenNumber (taken.Place slot) = (0, slot ∷ [])
 takenNumber (taken.Refused row) = (row, [])
 
--- A completion: id, length, yes; the packet lengths stand in the packet table. "8: completion code refused, with the code number."
+-- A completion: id, length, yes; the packet lengths stand in the packet table. Row 8: "completion code refused, with the code number".
 abbrev pub reclaimedNumber : Reclaimed → Numbered
 reclaimedNumber (reclaimed.Done c) = (0, c .id ∷ c .length ∷ flag (c .yes) ∷ [])
 reclaimedNumber reclaimed.Cancelled = (7, [])

@@ -123,7 +123,8 @@ pub data Seen : Type 0 where
   onward : Seen
   ends : ReclaimedOne → Seen
 
--- A stage's event: none, or one whose code is refused, which completes with 8, or an accepted one.
+-- A stage's event: none, or an accepted one, behind which the next stage is looked at, or one whose code is refused, which completes the request: with 8, or
+-- with 7 where it is cancelled.
 abbrev pub stageBy : Finished → Endpoint → Record → ℕ → Seen
 stageBy place.Nothing e v number = onward
 stageBy (place.Event w) e v number =
@@ -162,6 +163,8 @@ abbrev pub recordsAfter : Seen → List ℕ → List ℕ → List ℕ
 recordsAfter onward same changed = changed
 recordsAfter (ends r) same changed = same
 
+-- What the data's event tells is recorded wherever it is looked at: also where its own code is refused, and the request is over by it. Only a refused setup
+-- ends before it.
 unfoldable pub reclaimControl : Endpoint → List ℕ → List ℕ → Record → ℕ → ReclaimedOne × List ℕ
 reclaimControl e finished records v number =
     let setup = stageBy (finishedAt finished (v .place)) e v number in
@@ -171,7 +174,7 @@ reclaimControl e finished records v number =
       recordsAfter setup records (setWord records number recordedWord recorded),
     )
 
--- ---- ISO: "packet records are read and marked in place; when the last packet is found, earlier ones without an event count 0"
+-- ---- ISO: "packet records are read and marked in place in the lent table; when the last packet is found, earlier ones without an event count 0"
 
 -- A packet that is counted.
 abbrev pub counted : Packet → ℕ → Packet

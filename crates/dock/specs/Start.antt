@@ -1,4 +1,4 @@
--- The start of a submission: "it stores no TRB; it takes id, record and count, and writes the record's packets anew, unmarked".
+-- "The start of a submission stores no TRB; it takes id, record and count, and writes the record's packets anew, unmarked."
 use Prim.Native.Nat.{ℕ, _+_, _*_}
 use mathlib.Core.Bool.{Bool, true, false, not, _&&_, _||_}
 use mathlib.Core.List.{List, [], _∷_}

@@ -39,7 +39,8 @@ shapeOf values = record { slots = value values 0; base = value values 1 }
 unfoldable pub identityOf : List ℕ → Identity
 identityOf values = record { slot = byte (value values 3); dci = byte (value values 4); mask = value values 2 }
 
--- "`control` gives request type, request, value, index, address, length; `bulk` in, address, length; `iso` the same, then the packet lengths."
+-- "`control` gives request type (bit 7 is in), request, value, index, address, length; `bulk` in (0 or 1), address, length; `iso` the same, then the packet
+-- lengths".
 unfoldable pub whatOf : ℕ → List ℕ → What
 whatOf name values =
     let a = value values 0 in

@@ -160,7 +160,8 @@ abbrev pub form : List ℕ → ℕ
 form [] = 0
 form (kind ∷ kinds) = kind + 16 * form kinds
 
--- "`control` gives request type, request, value, index, address, length; `bulk` in (0 or 1), address, length; `iso` the same, then the packet lengths."
+-- "`control` gives request type (bit 7 is in), request, value, index, address, length; `bulk` in (0 or 1), address, length; `iso` the same, then the packet
+-- lengths".
 abbrev pub controlForm : ℕ
 controlForm = form (hex8 ∷ hex8 ∷ hex16 ∷ hex16 ∷ address ∷ count ∷ [])
 
@@ -170,7 +171,7 @@ bulkForm = form (flag ∷ address ∷ count ∷ [])
 abbrev pub isoForm : ℕ
 isoForm = form (flag ∷ address ∷ count ∷ counts ∷ [])
 
--- "`ring` gives L, base, mask, slot id, dci"; an event its four words; a reclaim and a cancel an id.
+-- "`ring` gives L (here at most 256, else 13), base, mask, slot id, dci"; an event its four words; a reclaim and a cancel an id.
 abbrev pub ringForm : ℕ
 ringForm = form (count ∷ address ∷ address ∷ octet ∷ octet ∷ [])
 

@@ -58,8 +58,9 @@ fn less_32(requested: u32, remaining: u32) -> u32
 pub fn value_of(code: u32, requested: u32, remaining: u32) -> Value
     ensures { λ r. ⌜ worthOf r ≡ worth code requested remaining ⌝ }
 {
+    let moved = less_32(requested, remaining);
     if is_counted(code) {
-        return Value::Bytes(less_32(requested, remaining));
+        return Value::Bytes(moved);
     }
     if code == 28 {
         return Value::Bytes(remaining);

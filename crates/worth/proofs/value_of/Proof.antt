@@ -8,7 +8,10 @@ use Rattle.worth.proofs.value_of.Tie as tie
 
 returns : tie.Need-returns
 unfolding worth
-returns c = simp (sym (c .before .before .is-counted .ensures) ∙ c .before .if1 .taken, c .less-32 .ensures)
+returns c =
+    let at-is-counted = c .before in
+    let at-less-32 = at-is-counted .before in
+    simp (sym (at-is-counted .is-counted .ensures) ∙ c .if1 .taken, at-less-32 .less-32 .ensures)
 
 returns-2 : tie.Need-returns-2
 unfolding worth
