@@ -1,6 +1,7 @@
 pub mod Counting
 pub mod Laid
 pub mod Kept
+pub mod Agreed
 pub mod Made
 pub mod Stepped
 pub mod Awaited

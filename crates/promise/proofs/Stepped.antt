@@ -27,7 +27,9 @@ module _ (K : ℕ) (w : World) (before : ℕ) (work : model.Work (flat K)) where
     dock = w .dock;
     controller = goes x (w .controller);
     consumed = with x (w .controller) (w .consumed);
+    asked = w .asked;
     trbs = w .trbs;
+    earlier = w .earlier;
     first = w .first;
     heard = w .heard;
   }
