@@ -1,7 +1,7 @@
 -- The books agree with the dock's own state in every state that a run reaches (`run-agreed`): the ring's shape is the one it was made with, the settings
 -- are those of the last configure that was admitted, and while a submission is under way its record is that of the last request that was admitted, and the
 -- TRBs of that request are the last of the list. Assumes nothing.
-use Prim.Native.Nat.{ℕ, suc, max}
+use Prim.Native.Nat.{ℕ, max}
 use mathlib.Core.Bool.{true, false, false≢true}
 use mathlib.Core.List.{List, [], _∷_, _++_}
 use mathlib.Core.Logic.{⊎-elim}
@@ -20,7 +20,6 @@ use Rattle.dock.specs.declared.Endpoint.{Endpoint}
 use Rattle.dock.specs.declared.Identity.{Identity}
 use Rattle.dock.specs.declared.Outcome.the-variants.{Done}
 use Rattle.dock.specs.declared.Periodic.{Periodic}
-use Rattle.dock.specs.declared.ReclaimedOne.{ReclaimedOne}
 use Rattle.dock.specs.declared.Request.{Request}
 use Rattle.dock.specs.declared.Shape.{Shape}
 use Rattle.dock.specs.declared.StoredOne.{StoredOne}
@@ -31,24 +30,24 @@ use Rattle.dock.specs.Configure.{plainNo, plainTests}
 use Rattle.dock.specs.HandOver.{handOverNo}
 use Rattle.dock.specs.Make.{make, makeNo}
 use Rattle.dock.specs.NextStore.{storeNo}
-use Rattle.dock.specs.Numbers.{outcomeNumber, takenNumber}
-use Rattle.dock.specs.Reclaim.{leave, nothing, reclaim, reclaimNo, reclaimTests}
+use Rattle.dock.specs.Numbers.{outcomeNumber, storedNumber, takenNumber}
+use Rattle.dock.specs.Reclaim.{leave, nothing, reclaim, reclaimTests}
 use Rattle.dock.specs.Requests.{kindOf, recordFor}
-use Rattle.dock.specs.Run.{State, stateOf, madeOf, Call, configures, starts, stores, submits, reclaims, cancels, retires, begins, ends, stops, resumes, points, after, answered}
+use Rattle.dock.specs.Run.{State, madeOf, Call, configures, starts, stores, submits, reclaims, cancels, retires, begins, ends, stops, resumes, points, after, answered}
 use Rattle.dock.specs.Run as dock
-use Rattle.dock.specs.Start.{startNo, recordTaken, idTaken, startedEndpoint, startedRecords}
+use Rattle.dock.specs.Start.{startNo, recordTaken, idTaken, startedEndpoint}
 use Rattle.dock.specs.Trbs.{deferred}
 use Rattle.dock.proofs.Reached.{flightPart}
 use Rattle.dock.proofs.ReachedSoundLaws.{Untouched, Looked, reclaim-result, not-done}
 use Rattle.dock.proofs.ReclaimLaws.{Left}
-use Rattle.dock.proofs.RefusalLaws.{make-refuses, make-acts, configure-refuses, configure-acts, plain-exact, start-refuses, start-acts, store-refuses, hand-over-refuses, hand-over-acts, cancel-refuses, cancel-exact, reclaim-refuses, reclaim-exact}
+use Rattle.dock.proofs.RefusalLaws.{make-refuses, make-acts, configure-refuses, configure-acts, plain-exact, start-refuses, start-acts, store-refuses, hand-over-refuses, hand-over-acts, cancel-refuses, cancel-exact, reclaim-exact}
 use Rattle.dock.proofs.StartLaws.{record-written}
 use Rattle.dock.proofs.StoreLaws.{lastStore}
 use Rattle.dock.proofs.StoreNextLaws.{store-admitted}
 use Rattle.dock.proofs.StoreStepLaws.{store-keeps, store-goes-on, store-ends, step-works}
 use Rattle.ids.proofs.AnyLaws.{true-or-false}
-use Rattle.promise.specs.Requested.{Settings, Last, never, requested, trbsFor, trbsOf, isControl, controls, defers}
-use Rattle.promise.specs.Run.{Asked, World, slots, withFirst, admits, handed, stepped, Move, calls, hands, steps, act, may, fromMaking, Run, made, andThen}
+use Rattle.promise.specs.Requested.{Settings, requested, trbsFor, trbsOf, isControl, controls, defers}
+use Rattle.promise.specs.Run.{Asked, World, slots, admits, underWay, handed, stepped, Move, calls, hands, steps, act, may, fromMaking, Run, made, andThen}
 
 -- ---- an answer's number, and the call's tests
 
@@ -79,6 +78,19 @@ module _ (w : World) where
     pub start-no : (startNo (d .endpoint) (d .records) (length (d .packets)) request lengths ≡ 0 → ⊥) → admits w (starts request lengths) ≡ false
     start-no p =
         declines-by w _ _ p (ap (λ a. outcomeNumber (a .0 .answer) .0) (start-refuses (d .endpoint) (d .records) (d .packets) request lengths p))
+
+  pub store-yes : storeNo (d .endpoint) (length (d .ring)) (length (d .finished)) (d .records) (length (d .packets)) ≡ 0 → underWay w ≡ true
+  store-yes p =
+      let last = lastStore (d .endpoint) (d .records) (d .packets) in
+      let by : StoredOne → ℕ = λ a. storedNumber (a .answer) .0 in
+      ⊎-elim
+      (λ (t : last ≡ true). admits-by w stores (ap by (store-ends (d .endpoint) (d .ring) (d .finished) (d .records) (d .packets) p t)))
+      (λ (t : last ≡ false). admits-by w stores (ap by (store-goes-on (d .endpoint) (d .ring) (d .finished) (d .records) (d .packets) p t)))
+      (true-or-false last)
+
+  pub store-no : (storeNo (d .endpoint) (length (d .ring)) (length (d .finished)) (d .records) (length (d .packets)) ≡ 0 → ⊥) → underWay w ≡ false
+  store-no p =
+      declines-by w _ _ p (ap (λ a. storedNumber (a .0 .answer) .0) (store-refuses (d .endpoint) (d .ring) (d .finished) (d .records) (d .packets) p))
 
   module _ (event : Words) where
     pub event-yes : handOverNo (d .endpoint) (length (d .finished)) event ≡ 0 → admits w (dock.hands event) ≡ true

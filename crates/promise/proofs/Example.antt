@@ -39,6 +39,7 @@ use Rattle.dock.specs.NextStore.{store, storeNo, storeTests, stepped, slotStore
 use Rattle.dock.specs.Trbs.{trbOf, trbCount, deferred, chained}
 use Rattle.dock.specs.Worth.{accepted, counts, worth}
 use Rattle.promise.specs.Controller.{Entry, does}
+use Rattle.promise.specs.Requested.{atMaking, requested}
 use Rattle.promise.specs.Run.{World, fromMaking, admitted, Move, calls, hands, steps, act, may, admits, isFor, handed, play, allowed, Run, made, andThen}
 use Rattle.promise.specs.Run as running
 
@@ -134,3 +135,17 @@ at-rest : let w = play outset moves in
     × (w .controller ≡ record { slot = 0; state = true })
 unfolding ended
 at-rest = (refl, refl, refl, refl)
+
+-- What was asked at the end; and the configure that was refused while the control request was stored is not booked.
+all-asked : play outset moves .asked
+    ≡ record {
+      shape = shape;
+      settings = record { packet = 64; burst = 0; interval = 1 };
+      last = requested (asking (Isoch true) 0x40000 128) (64 ∷ 64 ∷ []);
+    }
+unfolding ended
+all-asked = refl
+
+refused-unbooked : play outset (bulk 0 0 1 ++ bulk 1 1 2 ++ bulk 2 2 3 ++ control) .asked .settings ≡ atMaking
+unfolding ended
+refused-unbooked = refl

@@ -58,14 +58,14 @@ use Rattle.order.proofs.Index.{pos, slot-lt, distinct}
 use Rattle.order.proofs.Moves.{pending, waiting, length-layout}
 use Rattle.order.proofs.Order.{Front}
 use Rattle.promise.specs.Requested.{slotOf}
-use Rattle.promise.specs.Run.{World, slots, admitted, storedCount, part, within, admits, handed, stepped, Move, calls, hands, steps, act, ofRuns, Run}
+use Rattle.promise.specs.Run.{World, slots, admitted, underWay, storedCount, part, within, admits, handed, stepped, Move, calls, hands, steps, act, ofRuns, Run}
 use Rattle.promise.proofs.Agreed.{recordUnderWay, firstUnderWay, Agreed, slots-are, deferred-is, run-agreed}
 use Rattle.promise.proofs.Awaited.{next-at}
 use Rattle.promise.proofs.Handed.{all-stored}
 use Rattle.promise.proofs.Kept.{modelIn, Under, rests, opens, shows, hides, Kept}
 use Rattle.promise.proofs.Laid.{bared, bared-length}
 use Rattle.promise.proofs.Order.{deferred-unseen}
-use Rattle.promise.proofs.Reach.{run-reached, run-sound, run-kept}
+use Rattle.promise.proofs.Reach.{run-reached, under-way-is, run-sound, run-kept}
 use Rattle.promise.proofs.Reclaimed.{place-at, left-heard}
 use Rattle.promise.proofs.Upcoming.{left-count}
 
@@ -96,14 +96,14 @@ module _ (w : World) (g : Agreed w) (k : Kept w) where
   to-come (shows u) busy = (rw (u .is) (left-count (k .K) e (w .dock .records) (w .dock .packets)), u .counted)
   to-come (hides u) busy = (rw (u .is) (left-count (k .K) e (w .dock .records) (w .dock .packets)), u .counted)
 
-  pub stored-is : k .stored ≡ storedCount w
+  pub stored-is : underWay w ≡ e .work .busy → k .stored ≡ storedCount w
   unfolding storedCount
-  stored-is =
+  stored-is u =
       ⊎-elim
       (λ (busy : e .work .busy ≡ true).
       let t = to-come (k .under) busy in
-      rw busy (omega (arith, t .0, t .1, k .split, k .begun busy .last, g .of-last busy .marked)))
-      (λ (free : e .work .busy ≡ false). rw free (all-stored w k free))
+      rw (u ∙ busy) (omega (arith, t .0, t .1, k .split, k .begun busy .last, g .of-last busy .marked)))
+      (λ (free : e .work .busy ≡ false). rw (u ∙ free) (all-stored w k free))
       (true-or-false (e .work .busy))
 
   -- A TRB's slot, as the statement has it and as the model has it.
@@ -148,7 +148,7 @@ event-latest {w} r i event below said =
     let g = run-agreed r in
     let k = run-kept r in
     let l = k .places i event (omega (arith, slots-so w g k)) said in
-    let count = stored-is w g k in
+    let count = stored-is w g k (under-way-is r) in
     record {
       nth = l .latest;
       there = slot-is w g k (l .latest) ∙ l .there;
@@ -164,16 +164,23 @@ event-latest {w} r i event below said =
 
 -- ---- the slot that a store changes
 
-module _ (w : World) (g : Agreed w) (k : Kept w) (busy : w .dock .endpoint .work .busy ≡ true) (j : ℕ) (was : j < storedCount w) where
+module _ {w : World} (r : Run w) (busy : w .dock .endpoint .work .busy ≡ true) (j : ℕ) (was : j < storedCount w) where
+  g : Agreed w
+  g = run-agreed r
+
+  k : Kept w
+  k = run-kept r
+
   -- The link's slot is no TRB's.
   not-link : w .dock .endpoint .at .place + 1 ≡ w .dock .endpoint .shape .slots → slotOf (slots w) j ≡ w .dock .endpoint .at .place → ⊥
   not-link at-link same = omega (arith, slot-is w g k j, slot-lt (k .K) (some-place w g k) j, k .shape)
 
   -- A TRB goes to a slot whose last TRB is a round behind.
-  behind-trb : (w .dock .endpoint .at .place + 1 ≡ w .dock .endpoint .shape .slots → ⊥) → slotOf (slots w) j ≡ w .dock .endpoint .at .place → j < length (w .consumed)
+  behind-trb : (w .dock .endpoint .at .place + 1 ≡ w .dock .endpoint .shape .slots → ⊥) → slotOf (slots w) j ≡ w .dock .endpoint .at .place
+      → j < length (w .consumed)
   behind-trb off same =
       let at = next-at w k (λ q. off (omega (arith, k .shape))) in
-      let far = round-behind w g k j (k .stored) (sym (slot-is w g k j) ∙ same ∙ sym at) (omega (arith, stored-is w g k)) in
+      let far = round-behind w g k j (k .stored) (sym (slot-is w g k j) ∙ same ∙ sym at) (omega (arith, stored-is w g k (under-way-is r))) in
       omega (arith, few-wait w g k, k .split)
 
   -- The first TRB is stored again in its own slot.
@@ -183,12 +190,13 @@ module _ (w : World) (g : Agreed w) (k : Kept w) (busy : w .dock .endpoint .work
       let b = k .begun busy in
       let first = w .earlier in
       let marked = g .of-last busy .marked in
-      let in-one : (pos (k .K) j) .place ≡ (pos (k .K) first) .place = sym (slot-is w g k j) ∙ same ∙ sym (b .first-at) ∙ ap (λ (n : ℕ). (pos (k .K) n) .place) marked in
+      let in-one : (pos (k .K) j) .place ≡ (pos (k .K) first) .place =
+      sym (slot-is w g k j) ∙ same ∙ sym (b .first-at) ∙ ap (λ (n : ℕ). (pos (k .K) n) .place) marked in
       ⊎-elim
       (λ (q : j ≡ first). inr q)
       (⊎-elim
       (λ (h : j < first). inl (omega (arith, round-behind w g k j first in-one h, few-wait w g k, b .last, marked)))
-      (λ (h : first < j). absurd (omega (arith, round-behind w g k first j (sym in-one) h, few-wait w g k, k .split, stored-is w g k))))
+      (λ (h : first < j). absurd (omega (arith, round-behind w g k first j (sym in-one) h, few-wait w g k, k .split, stored-is w g k (under-way-is r)))))
       (compared j first)
 
 -- A front part of the first n of a list has n elements at most.
@@ -211,10 +219,13 @@ module _ (w : World) where
   unfolding slotStored
   slot-of-first q = ap (λ (n : Next). slotStored n (w .dock .endpoint)) q
 
-module _ {w : World} (r : Run w) (busy : w .dock .endpoint .work .busy ≡ true) (j : ℕ) (was : j < storedCount w)
+module _ {w : World} (r : Run w) (under : underWay w ≡ true) (j : ℕ) (was : j < storedCount w)
     (same : slotOf (slots w) j ≡ slotChanged (w .dock .endpoint) (w .dock .records)) where
   abbrev now : Next
   now = nextStore (w .dock .endpoint) (w .dock .records)
+
+  busy : w .dock .endpoint .work .busy ≡ true
+  busy = sym (under-way-is r) ∙ under
 
   some-store : isNone now ≡ false
   some-store =
@@ -223,15 +234,15 @@ module _ {w : World} (r : Run w) (busy : w .dock .endpoint .work .busy ≡ true)
       store-admitted (d .endpoint) (d .ring) (d .finished) (d .records) (d .packets) row .course .more
 
   by-next : (n : Next) → now ≡ n → (j < length (w .consumed)) ⊎ ((now ≡ theFirst) × (j ≡ w .earlier))
-  by-next theLink q = absurd (not-link w (run-agreed r) (run-kept r) busy j was (because (w .dock .endpoint) (recordUnderWay w) theLink q) (same ∙ slot-of-link w q))
-  by-next theTrb q = inl (behind-trb w (run-agreed r) (run-kept r) busy j was (because (w .dock .endpoint) (recordUnderWay w) theTrb q .0) (same ∙ slot-of-trb w q))
+  by-next theLink q = absurd (not-link r busy j was (because (w .dock .endpoint) (recordUnderWay w) theLink q) (same ∙ slot-of-link w q))
+  by-next theTrb q = inl (behind-trb r busy j was (because (w .dock .endpoint) (recordUnderWay w) theTrb q .0) (same ∙ slot-of-trb w q))
   by-next theFirst q =
       let c = because (w .dock .endpoint) (recordUnderWay w) theFirst q in
-      let unseen = front-short (w .consumed) (admitted w) (w .earlier) (deferred-unseen r busy (sym (deferred-is w (run-agreed r) busy) ∙ c .1)) in
+      let unseen = front-short (w .consumed) (admitted w) (w .earlier) (deferred-unseen r under (sym (deferred-is w (run-agreed r) busy) ∙ c .1)) in
       ⊎-elim
       (λ (l : j < length (w .consumed)). inl l)
       (λ (z : j ≡ w .earlier). inr (q, z))
-      (behind-first w (run-agreed r) (run-kept r) busy j was unseen (same ∙ slot-of-first w q))
+      (behind-first r busy j was unseen (same ∙ slot-of-first w q))
   by-next fit.none q = absurd (false≢true (sym some-store ∙ ap isNone q))
 
   -- A TRB that is stored, in the slot that the next store changes: it is consumed, or it is the first of its TD, stored again.

@@ -163,7 +163,8 @@ module _ (w : World) (event : Words) (n : ℕ) (h : Sound (w .dock)) (g : Agreed
       let small : place < k .K = slot-lt (k .K) some-place n in
       let at : slotNumber (slotFor e event) ≡ place =
       ap (λ (a : ℕ). slotNumber (slotOf (e .shape .base) (e .shape .slots) a))
-      (f .address ∙ ap (λ (x : Shape). slotAddress (x .base) (slotAt (w .consumed) n)) (sym (g .shape)) ∙ ap (slotAddress (e .shape .base)) (consumed-at w k n (f .consumed)))
+      (f .address ∙ ap (λ (x : Shape). slotAddress (x .base) (slotAt (w .consumed) n)) (sym (g .shape))
+      ∙ ap (slotAddress (e .shape .base)) (consumed-at w k n (f .consumed)))
       ∙ ap slotNumber (slot-found (e .shape .base) (e .shape .slots) place (omega (arith, k .shape))) in
       let all = all-stored w k free in
       let long = h .finishedLong in

@@ -22,12 +22,12 @@ use Rattle.order.proofs.Moves.{length-layout}
 use Rattle.order.proofs.Order.{Front, InRing, inv-in-order, inv-deferred-unseen, inv-drains, inv-drains-by-count, inv-in-ring}
 use Rattle.promise.specs.Controller.{Entry}
 use Rattle.promise.specs.Requested.{lastTrbs, controls, defers}
-use Rattle.promise.specs.Run.{World, slots, admitted, stepped, stepping, Run}
+use Rattle.promise.specs.Run.{World, slots, admitted, underWay, stepped, stepping, Run}
 use Rattle.promise.proofs.Agreed.{recordUnderWay, firstUnderWay, Agreed, slots-are, deferred-is, control-defers, run-agreed}
 use Rattle.promise.proofs.Handed.{idle-kept}
 use Rattle.promise.proofs.Kept.{modelIn, Under, rests, opens, shows, hides, Kept}
 use Rattle.promise.proofs.Laid.{bared, bared-length, laid-out}
-use Rattle.promise.proofs.Reach.{run-kept}
+use Rattle.promise.proofs.Reach.{under-way-is, run-kept}
 use Rattle.promise.proofs.Stepped.{step-is}
 
 module _ (w : World) (g : Agreed w) (k : Kept w) where
@@ -80,35 +80,35 @@ record-unseen {w} r busy late =
     let g = run-agreed r in
     rw (← g .of-last busy .marked) (kept-unseen w g (run-kept r) busy late)
 
-pub deferred-unseen : {w : World} → Run w → w .dock .endpoint .work .busy ≡ true → defers (w .asked .last) ≡ true
+pub deferred-unseen : {w : World} → Run w → underWay w ≡ true → defers (w .asked .last) ≡ true
     → Front (w .consumed) (take (w .earlier) (admitted w))
-deferred-unseen {w} r busy late = record-unseen r busy (deferred-is w (run-agreed r) busy ∙ late)
+deferred-unseen {w} r under late = let busy = sym (under-way-is r) ∙ under in record-unseen r busy (deferred-is w (run-agreed r) busy ∙ late)
 
-pub control-unseen : {w : World} → Run w → w .dock .endpoint .work .busy ≡ true → controls (w .asked .last) ≡ true
+pub control-unseen : {w : World} → Run w → underWay w ≡ true → controls (w .asked .last) ≡ true
     → Front (w .consumed) (take (w .earlier) (admitted w))
-control-unseen {w} r busy kind = record-unseen r busy (control-defers w (run-agreed r) busy kind)
+control-unseen {w} r under kind = let busy = sym (under-way-is r) ∙ under in record-unseen r busy (control-defers w (run-agreed r) busy kind)
 
-pub drains : {w : World} → Run w → w .dock .endpoint .work .busy ≡ false → (n : ℕ) → slots w - 1 ≤ n → stepping n w .consumed ≡ admitted w
+pub drains : {w : World} → Run w → underWay w ≡ false → (n : ℕ) → slots w - 1 ≤ n → stepping n w .consumed ≡ admitted w
 drains {w} r free n enough =
     let g = run-agreed r in
     let k = run-kept r in
     ap (λ (s : model.State (flat (k .K))). s .consumed) (sym (steps-are (k .K) n w (k .before) (k .work)))
-    ∙ inv-drains (some-place w g k) (m w g k) (k .inv) refl (idle-kept w k free) n (omega (arith, slots-so w g k))
+    ∙ inv-drains (some-place w g k) (m w g k) (k .inv) refl (idle-kept w k (sym (under-way-is r) ∙ free)) n (omega (arith, slots-so w g k))
     ∙ admitted-is w g k
 
-pub drains-by-count : {w : World} → Run w → w .dock .endpoint .work .busy ≡ false → (n : ℕ) → length (w .trbs) < length (w .consumed) + n
+pub drains-by-count : {w : World} → Run w → underWay w ≡ false → (n : ℕ) → length (w .trbs) < length (w .consumed) + n
     → stepping n w .consumed ≡ admitted w
 drains-by-count {w} r free n enough =
     let g = run-agreed r in
     let k = run-kept r in
     ap (λ (s : model.State (flat (k .K))). s .consumed) (sym (steps-are (k .K) n w (k .before) (k .work)))
-    ∙ inv-drains-by-count (some-place w g k) (m w g k) (k .inv) refl (idle-kept w k free) n
+    ∙ inv-drains-by-count (some-place w g k) (m w g k) (k .inv) refl (idle-kept w k (sym (under-way-is r) ∙ free)) n
     (omega (arith, length-layout (flat (k .K)) (pos (k .K) 0) (bared (w .trbs)), bared-length (w .trbs)))
     ∙ admitted-is w g k
 
 -- While a submission is under way, of any kind, the TRBs behind those that were admitted before it are those of the last request, under the last settings.
-pub under-way-last : {w : World} → Run w → w .dock .endpoint .work .busy ≡ true → drop (w .earlier) (w .trbs) ≡ lastTrbs (w .asked .settings) (w .asked .last)
-under-way-last r busy = let o = run-agreed r .of-last busy in rw (o .last) (o .its-own)
+pub under-way-last : {w : World} → Run w → underWay w ≡ true → drop (w .earlier) (w .trbs) ≡ lastTrbs (w .asked .settings) (w .asked .last)
+under-way-last r under = let o = run-agreed r .of-last (sym (under-way-is r) ∙ under) in rw (o .last) (o .its-own)
 
 -- What is admitted and not consumed, and that it is there.
 pub record Waiting (w : World) : Type 0 where
@@ -116,11 +116,11 @@ pub record Waiting (w : World) : Type 0 where
   pub whole : w .consumed ++ rest ≡ admitted w
   pub there : InRing (flat (slots w - 1)) (w .dock .ring) rest
 
-pub in-ring : {w : World} → Run w → w .dock .endpoint .work .busy ≡ false → Waiting w
+pub in-ring : {w : World} → Run w → underWay w ≡ false → Waiting w
 in-ring {w} r free =
     let g = run-agreed r in
     let k = run-kept r in
-    let s = inv-in-ring (some-place w g k) (m w g k) (k .inv) (idle-kept w k free) in
+    let s = inv-in-ring (some-place w g k) (m w g k) (k .inv) (idle-kept w k (sym (under-way-is r) ∙ free)) in
     let same : k .K ≡ slots w - 1 = omega (arith, slots-so w g k) in
     record {
       rest = s .rest;

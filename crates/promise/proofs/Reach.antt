@@ -1,13 +1,19 @@
--- Every state that a run reaches is one that the dock's calls reach, and has the invariant. Assumes nothing.
-use mathlib.Core.Bool.{Bool, true, false≢true}
-use mathlib.Core.Path.{_≡_, refl, sym, subst}
+-- Every state that a run reaches is one that the dock's calls reach, and has the invariant; and the next store is served where the dock's state says that a
+-- submission is under way. Assumes nothing.
+use mathlib.Core.Bool.{Bool, true, false, false≢true}
+use mathlib.Core.Logic.{⊎-elim}
+use mathlib.Core.Path.{_≡_, refl, sym, ap, _∙_, subst}
+use native.Mathlib.Omega.{arith}
+use Rattle.base.specs.First.{pick}
+use Rattle.ids.proofs.AnyLaws.{true-or-false}
+use Rattle.dock.proofs.ReachedFitLaws.{store-number}
 use Rattle.dock.proofs.ReachedSoundLaws.{reached-sound}
 use Rattle.dock.proofs.Reached.{Sound}
 use Rattle.dock.specs.Run.{State, making, Call, configures, starts, stores, submits, reclaims, cancels, retires, begins, ends, stops, resumes, points, Reached, next}
 use Rattle.dock.specs.Run as dock
 use Rattle.dock.proofs.RetireLaws.{picked}
-use Rattle.promise.specs.Run.{World, Part, setting, opening, filling, aside, outside, part, admits, booked, handed, stepped, Move, calls, hands, steps, act, may, Run, made, andThen}
-use Rattle.promise.proofs.Agreed.{Agreed, run-agreed}
+use Rattle.promise.specs.Run.{World, Part, setting, opening, filling, aside, outside, part, admits, underWay, booked, handed, stepped, Move, calls, hands, steps, act, may, Run, made, andThen}
+use Rattle.promise.proofs.Agreed.{store-yes, store-no, Agreed, run-agreed}
 use Rattle.promise.proofs.Flying.{configured-kept, cancelled-kept}
 use Rattle.promise.proofs.Handed.{handed-kept}
 use Rattle.promise.proofs.Kept.{Kept}
@@ -37,6 +43,16 @@ run-reached (andThen {w} r m allowed) = act-reached w m (run-reached r)
 
 pub run-sound : {w : World} → Run w → Sound (w .dock)
 run-sound r = reached-sound (run-reached r)
+
+-- The next store is served where the dock's state says that a submission is under way.
+pub under-way-is : {w : World} → Run w → underWay w ≡ w .dock .endpoint .work .busy
+under-way-is {w} r =
+    let row = store-number (run-reached r) in
+    ⊎-elim
+    (λ (busy : w .dock .endpoint .work .busy ≡ true). store-yes w (row ∙ ap (λ (b : Bool). pick b 0 10) busy) ∙ sym busy)
+    (λ (free : w .dock .endpoint .work .busy ≡ false).
+    store-no w (λ p. let ten : 0 ≡ 10 = sym p ∙ row ∙ ap (λ (b : Bool). pick b 0 10) free in omega arith) ∙ sym free)
+    (true-or-false (w .dock .endpoint .work .busy))
 
 call-kept : (w : World) (c : Call) → Sound (w .dock) → Agreed w → Kept w → may w (calls c) ≡ true → Kept (act w (calls c))
 call-kept w (configures packet burst interval) h g k allowed = configured-kept w packet burst interval k

@@ -43,11 +43,11 @@ use Rattle.dock.proofs.StoreStepLaws.{store-goes-on, store-ends}
 use Rattle.dock.proofs.StoreLaws.{lastStore}
 use Rattle.order.proofs.Order.{Front}
 use Rattle.promise.specs.Requested.{typed}
-use Rattle.promise.specs.Run.{World, slots, admitted, part, admits, handed, stepped, stepping, Move, calls, hands, steps, act, Run}
+use Rattle.promise.specs.Run.{World, slots, admitted, part, admits, underWay, handed, stepped, stepping, Move, calls, hands, steps, act, Run}
 use Rattle.promise.specs.Run as run
 use Rattle.promise.specs.Whole.{storing, submitted, isAside, between, WholeRun, made, andThen, andSubmits}
 use Rattle.promise.proofs.Order.{in-order, drains}
-use Rattle.promise.proofs.Reach.{booked-dock, run-sound}
+use Rattle.promise.proofs.Reach.{booked-dock, run-sound, under-way-is}
 
 -- ---- the stores of a submission, by themselves
 
@@ -288,10 +288,13 @@ made-rests ring finished records packets shape who =
     picked (λ (t : Changed × List ℕ × List ℕ × List ℕ × List ℕ). madeOf t .endpoint .work .busy ≡ false)
     (eqb (makeNo (length ring) (length finished) (length records) (length packets) shape who) 0) _ _ (λ t. refl) (λ t. refl)
 
-pub whole-rests : {w : World} → WholeRun w → w .dock .endpoint .work .busy ≡ false
-whole-rests (made ring finished records packets shape who done) = made-rests ring finished records packets shape who
-whole-rests (andThen {w} r m other allowed) = between-rests w m other (whole-rests r)
-whole-rests (andSubmits {w} r request lengths pauses fits) = submitted-rests w (run-sound (whole-run r)) request lengths pauses (whole-rests r)
+dock-rests : {w : World} → WholeRun w → w .dock .endpoint .work .busy ≡ false
+dock-rests (made ring finished records packets shape who done) = made-rests ring finished records packets shape who
+dock-rests (andThen {w} r m other allowed) = between-rests w m other (dock-rests r)
+dock-rests (andSubmits {w} r request lengths pauses fits) = submitted-rests w (run-sound (whole-run r)) request lengths pauses (dock-rests r)
+
+pub whole-rests : {w : World} → WholeRun w → underWay w ≡ false
+whole-rests r = under-way-is (whole-run r) ∙ dock-rests r
 
 -- ---- the corollary
 
@@ -304,4 +307,4 @@ whole-drains r n enough = drains (whole-run r) (whole-rests r) n enough
 -- Whatever the controller does meanwhile, a whole submission leaves the dock as its definition says.
 pub whole-submits : {w : World} → WholeRun w → (request : Request) (lengths : List ℕ) (pauses : ℕ → ℕ)
     → submitted w request lengths pauses .dock ≡ after (w .dock) (submits request lengths)
-whole-submits {w} r request lengths pauses = submitted-is w (run-sound (whole-run r)) request lengths pauses (whole-rests r)
+whole-submits {w} r request lengths pauses = submitted-is w (run-sound (whole-run r)) request lengths pauses (dock-rests r)

@@ -1,8 +1,8 @@
 -- A run: a dock that is made, any calls of it but retire and reset, in any order, refused or not, and steps of its controller anywhere, also between two
 -- stores. What is asked is written down from the calls' arguments and the numbers of their answers; the list of admitted TRBs is computed from that, and
--- nothing in it is read out of the dock's state. The premises stand in `may`: an event that is taken is for a TRB that the controller has consumed, each at most
--- once, in that order, and coded Success or Short Packet. An event that the dock refuses is not bound by them, and one that comes while a submission is under
--- way is refused (12). Not every consumed TRB need have an event.
+-- nothing in it is read out of the dock's state. The premises stand in `may`: an event that is taken is for a TRB that the controller has consumed, each at
+-- most once, in that order, and coded Success or Short Packet. An event that the dock refuses is not bound by them, and one that comes while a submission is
+-- under way is refused (12). Not every consumed TRB need have an event.
 use Prim.Native.Nat.{ℕ, zero, suc, _+_}
 use mathlib.Core.Bool.{Bool, true, false, not, _&&_, _||_}
 use mathlib.Core.List.{List, [], _∷_, _++_}
@@ -48,7 +48,7 @@ pub record World : Type 0 where
   pub trbs : List Trb
   -- how many of them were admitted before the last request
   pub earlier : ℕ
-  -- of each record, the number of the first TRB of the last request that was given it
+  -- of each record of the dock, the number of the first TRB of the last request that was given it; the list does not come of this
   pub first : ℕ → ℕ
   -- one more than the number of the last TRB that an event came for
   pub heard : ℕ
@@ -92,6 +92,10 @@ part points = aside
 unfoldable pub admits : World → Call → Bool
 admits w c = eqb (answered (w .dock) c .0) 0
 
+-- A submission is under way where the next store is served; with none under way a store answers 10.
+abbrev pub underWay : World → Bool
+underWay w = admits w stores
+
 abbrev pub withDock : World → State → World
 withDock w d =
     record {
@@ -105,7 +109,7 @@ withDock w d =
       heard = w .heard;
     }
 
--- A configure that is admitted gives the settings of the submissions behind it.
+-- A configure that is admitted gives the settings of the submissions that follow it.
 abbrev pub withSettings : World → State → Settings → World
 withSettings w d settings =
     record {
@@ -236,7 +240,7 @@ may w steps = true
 
 -- ---- runs
 
--- A dock as its making leaves it, with its controller at the outset: of a ring of this shape nothing was asked.
+-- A dock as its making leaves it, with its controller at the outset: the ring has the shape that was given, and no request has come.
 abbrev pub fromMaking : Shape → State → World
 fromMaking shape d =
     record {
@@ -263,9 +267,7 @@ stepping (suc n) w = stepping n (stepped w)
 
 -- How many TRBs are stored: all that are admitted but, while a submission is under way, those of it that are still to come.
 unfoldable pub storedCount : World → ℕ
-storedCount w =
-    let work = w .dock .endpoint .work in
-    pick (work .busy) (w .earlier + work .stored) (length (w .trbs))
+storedCount w = pick (underWay w) (w .earlier + w .dock .endpoint .work .stored) (length (w .trbs))
 
 -- Many moves, and whether each may be made in its turn.
 unfoldable pub play : World → List Move → World
