@@ -157,7 +157,7 @@ module _ (incoming : Bool) (given : Request) (lengths : List ℕ) (id place : �
     sizes : (j : ℕ) → j < length ns → packetAt packets (e .work .number) (e .work .stored + j) .requested ≡ getD ns j 0
     short : (j : ℕ) → j < length ns → getD ns j 0 ≤ longest
 
-  -- "Bit 9 on all but the last packet."
+  -- "bit 9 on all but the last packet".
   not-last : (k : ℕ) (ns : List ℕ) → k + suc (length ns) ≡ trbCount iso → not (eqb (k + 1) (trbCount iso)) ≡ some ns
   not-last k [] q = let last : k + 1 ≡ trbCount iso = omega arith in rw (eq-eqb _ _ last)
   not-last k (n ∷ ns) q = rw (ne-eqb (k + 1) (trbCount iso) (λ (l : k + 1 ≡ trbCount iso). omega arith))

@@ -110,13 +110,17 @@ withDock w d =
     }
 
 -- A configure that is admitted gives the settings of the submissions that follow it.
-abbrev pub withSettings : World → State → Settings → World
-withSettings w d settings =
+abbrev pub withSettings : World → State → ℕ → ℕ → ℕ → World
+withSettings w d packet burst interval =
     record {
       dock = d;
       controller = w .controller;
       consumed = w .consumed;
-      asked = record { shape = w .asked .shape; settings = settings; last = w .asked .last };
+      asked = record {
+        shape = w .asked .shape;
+        settings = record { packet = packet; burst = burst; interval = interval };
+        last = w .asked .last;
+      };
       trbs = w .trbs;
       earlier = w .earlier;
       first = w .first;
@@ -142,8 +146,7 @@ withRequest w d r request lengths =
 
 -- The books after a call that leaves the dock so, by whether it was admitted.
 abbrev pub booked : World → State → Bool → Part → World
-booked w d granted (setting packet burst interval) =
-    pick granted (withSettings w d (record { packet = packet; burst = burst; interval = interval })) (withDock w d)
+booked w d granted (setting packet burst interval) = pick granted (withSettings w d packet burst interval) (withDock w d)
 booked w d granted (opening request lengths) = pick granted (withRequest w d (recordTaken (w .dock .endpoint)) request lengths) (withDock w d)
 booked w d granted filling = withDock w d
 booked w d granted aside = withDock w d
