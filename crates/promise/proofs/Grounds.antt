@@ -366,8 +366,8 @@ call-consumed {w} run points its r fly gone = absurd (false≢true (sym gone ∙
 
 -- Whatever the move of a run: a request that was in flight before it and is not after it has all its TRBs consumed.
 pub leaves-consumed : {w : World} → Run w → (m : Move) → ofRuns m ≡ true → (r : ℕ) → inFlight w r ≡ true → inFlight (act w m) r ≡ false
-    → w .first r + recordAt (w .dock .records) r .count ≤ length (w .consumed)
+    → w .until r ≤ length (w .consumed)
 unfolding handed stepped
-leaves-consumed run (calls c) its r fly gone = call-consumed run c its r fly gone
+leaves-consumed run (calls c) its r fly gone = omega (arith, call-consumed run c its r fly gone, run-agreed run .ranges r fly)
 leaves-consumed run (hands event nth) its r fly gone = absurd (false≢true (sym gone ∙ fly))
 leaves-consumed run steps its r fly gone = absurd (false≢true (sym gone ∙ fly))

@@ -1,6 +1,7 @@
 pub mod Counting
 pub mod Laid
 pub mod Kept
+pub mod Asked
 pub mod Agreed
 pub mod Made
 pub mod Stepped
@@ -9,7 +10,6 @@ pub mod Handed
 pub mod Seen
 pub mod Flying
 pub mod Reclaimed
-pub mod Asked
 pub mod Started
 pub mod Upcoming
 pub mod Stored

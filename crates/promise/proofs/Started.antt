@@ -41,7 +41,7 @@ use Rattle.order.proofs.Index.{pos}
 use Rattle.order.proofs.Moves.{Inv, begin-keeps, length-layout, resting, starts-pending}
 use Rattle.order.proofs.Numbers.{Numbered, begin-numbered}
 use Rattle.promise.specs.Requested.{trbsOf, typed}
-use Rattle.promise.specs.Run.{World, withFirst, withRequest, calls, act}
+use Rattle.promise.specs.Run.{World, withNumber, withRequest, calls, act}
 use Rattle.promise.proofs.Agreed.{Agreed, start-yes, start-no, same-trbs}
 use Rattle.promise.proofs.Asked.{settingsIn, asked-for, trbs-count, trbs-plain, link-is}
 use Rattle.promise.proofs.Awaited.{next-at}
@@ -89,7 +89,7 @@ module _ (K : ℕ) (records after : List ℕ) (occupancy taken : Occupancy) (fir
     (flying : v .state ≡ inFlight) (at : (pos K total) .place ≡ v .place) (counts : Counts v)
     (f : Flights K records occupancy first total heard) where
   abbrev firsts : ℕ → ℕ
-  firsts = withFirst first r total
+  firsts = withNumber first r total
 
   here-first : firsts r ≡ total
   here-first = let q : eqb r r ≡ true = eq-eqb r r refl in rw q
@@ -273,10 +273,10 @@ module _ (w : World) (request : Request) (lengths : List ℕ) (h : Sound (w .doc
       ap₂ (λ (a : List (model.Entry (flat K))) (o : ℕ). model.booked m (starts td (deferred kept)) a before o)
       (num .by-number ∙ ap (model.layout (flat K) (pos K 0)) joined) (omega arith) in
       let all = all-stored w k (s .resting) in
-      let here : withFirst (w .first) r total r ≡ total = (let q : eqb r r ≡ true = eq-eqb r r refl in rw q refl) in
+      let here : withNumber (w .first) r total r ≡ total = (let q : eqb r r ≡ true = eq-eqb r r refl in rw q refl) in
       let its : trbCount (recordAt records r) ≡ required request (length lengths) =
       ap trbCount written ∙ count-is request lengths id (e .at .place) (s .short) in
-      let last : withFirst (w .first) r total r + trbCount (recordAt records r) ≡ length (w .trbs ++ trbs) =
+      let last : withNumber (w .first) r total r + trbCount (recordAt records r) ≡ length (w .trbs ++ trbs) =
       omega (arith, length-append (w .trbs) trbs) in
       let is-taken = record-taken e old (w .dock .packets) request lengths passed in
       let longer : length (w .trbs ++ trbs) ≡ total + required request (length lengths) = omega (arith, length-append (w .trbs) trbs) in
@@ -290,7 +290,7 @@ module _ (w : World) (request : Request) (lengths : List ℕ) (h : Sound (w .doc
         inv = subst (λ (x : model.State (flat K)). Inv x) same inv;
         numbered = subst (λ (x : model.State (flat K)). Numbered x (bared (w .trbs ++ trbs))) same (rw joined at num);
         under =
-            under-way K begunWith records packets (withFirst (w .first) r total r) before t ts refl refl (to-store ∙ ap bared are) refl
+            under-way K begunWith records packets (withNumber (w .first) r total r) before t ts refl refl (to-store ∙ ap bared are) refl
             (length-layout (flat K) (pos K 0) (bared (w .trbs)) ∙ bared-length (w .trbs) ∙ sym here);
         begun = λ b. record { last = last; first-at = ap (λ (n : ℕ). (pos K n) .place) here ∙ producer-at };
         stored = k .stored;

@@ -31,6 +31,7 @@ module _ (K : ℕ) (w : World) (before : ℕ) (work : model.Work (flat K)) where
     trbs = w .trbs;
     earlier = w .earlier;
     first = w .first;
+    until = w .until;
     heard = w .heard;
   }
 

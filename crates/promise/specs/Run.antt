@@ -48,8 +48,10 @@ pub record World : Type 0 where
   pub trbs : List Trb
   -- how many of them were admitted before the last request
   pub earlier : ℕ
-  -- of each record of the dock, the number of the first TRB of the last request that was given it; the list does not come of this
+  -- of each record of the dock, the number of the first TRB of the last request that was given it, and one more than that of the last; the list does not
+  -- come of these
   pub first : ℕ → ℕ
+  pub until : ℕ → ℕ
   -- one more than the number of the last TRB that an event came for
   pub heard : ℕ
 
@@ -106,6 +108,7 @@ withDock w d =
       trbs = w .trbs;
       earlier = w .earlier;
       first = w .first;
+      until = w .until;
       heard = w .heard;
     }
 
@@ -124,12 +127,13 @@ withSettings w d packet burst interval =
       trbs = w .trbs;
       earlier = w .earlier;
       first = w .first;
+      until = w .until;
       heard = w .heard;
     }
 
--- The TRBs of a request that is admitted are numbered on, and its record has the first of them.
-abbrev pub withFirst : (ℕ → ℕ) → ℕ → ℕ → ℕ → ℕ
-withFirst first r n q = pick (eqb q r) n (first q)
+-- The TRBs of a request that is admitted are numbered on, and its record has their numbers.
+abbrev pub withNumber : (ℕ → ℕ) → ℕ → ℕ → ℕ → ℕ
+withNumber of r n q = pick (eqb q r) n (of q)
 
 abbrev pub withRequest : World → State → ℕ → Request → List ℕ → World
 withRequest w d r request lengths =
@@ -140,7 +144,8 @@ withRequest w d r request lengths =
       asked = record { shape = w .asked .shape; settings = w .asked .settings; last = requested request lengths };
       trbs = w .trbs ++ trbsOf (w .asked .settings) request lengths;
       earlier = length (w .trbs);
-      first = withFirst (w .first) r (length (w .trbs));
+      first = withNumber (w .first) r (length (w .trbs));
+      until = withNumber (w .until) r (length (w .trbs) + length (trbsOf (w .asked .settings) request lengths));
       heard = w .heard;
     }
 
@@ -166,6 +171,7 @@ withHeard w d n =
       trbs = w .trbs;
       earlier = w .earlier;
       first = w .first;
+      until = w .until;
       heard = n;
     }
 
@@ -185,6 +191,7 @@ stepped w =
       trbs = w .trbs;
       earlier = w .earlier;
       first = w .first;
+      until = w .until;
       heard = w .heard;
     }
 
@@ -254,6 +261,7 @@ fromMaking shape d =
       trbs = [];
       earlier = 0;
       first = λ r. 0;
+      until = λ r. 0;
       heard = 0;
     }
 
