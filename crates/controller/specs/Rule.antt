@@ -17,7 +17,7 @@ use Rattle.controller.specs.declared.Stepped.{Stepped}
 abbrev pub pointer : Consumer → Pointer
 pointer c = record { slot = c .slot; state = c .state }
 
--- "The controller starts at slot 0 with cycle 1."
+-- It starts where the making puts the producer, at slot 0 with cycle 1.
 abbrev pub origin : Consumer
 origin = record { slot = 0; state = true }
 

@@ -25,7 +25,6 @@ use Rattle.packets.specs.Packets.{packetAt}
 use Rattle.packets.specs.declared.Packet.{Packet}
 use Rattle.records.specs.declared.Record.{Record}
 use Rattle.dock.specs.declared.Endpoint.{Endpoint}
-use Rattle.dock.specs.declared.Periodic.{Periodic}
 use Rattle.dock.specs.declared.Request.{Request}
 use Rattle.dock.specs.declared.What.{What}
 use Rattle.dock.specs.declared.What.the-variants as asks
@@ -40,7 +39,7 @@ use Rattle.dock.proofs.StartStoreLaws.{count-is}
 use Rattle.dock.proofs.RefusalTestLaws.{by-too-long-control, by-too-long-bulk, by-too-long-interrupt}
 use Rattle.order.specs.Flat.{flat, linkType}
 use Rattle.order.specs.Model.{Plain}
-use Rattle.promise.specs.Requested.{addressStored, some, controlTrbs, normalTrbs, isochTrbs, trbsFor, trbsOf, typed}
+use Rattle.promise.specs.Requested.{Settings, addressStored, some, controlTrbs, normalTrbs, isochTrbs, trbsFor, trbsOf, typed}
 use Rattle.promise.proofs.Kept.{upcoming}
 use Rattle.promise.proofs.Laid.{bare, bared}
 
@@ -158,7 +157,7 @@ module _ (incoming : Bool) (given : Request) (lengths : List ℕ) (id place : �
     sizes : (j : ℕ) → j < length ns → packetAt packets (e .work .number) (e .work .stored + j) .requested ≡ getD ns j 0
     short : (j : ℕ) → j < length ns → getD ns j 0 ≤ longest
 
-  -- "Bit 9 on all but the last packet."
+  -- "bit 9 on all but the last packet".
   not-last : (k : ℕ) (ns : List ℕ) → k + suc (length ns) ≡ trbCount iso → not (eqb (k + 1) (trbCount iso)) ≡ some ns
   not-last k [] q = let last : k + 1 ≡ trbCount iso = omega arith in rw (eq-eqb _ _ last)
   not-last k (n ∷ ns) q = rw (ne-eqb (k + 1) (trbCount iso) (λ (l : k + 1 ≡ trbCount iso). omega arith))
@@ -207,17 +206,21 @@ all-short [] short zero l = omega arith
 all-short [] short (suc k) l = absurd (omega arith)
 all-short (n ∷ ns) short k l = short k l
 
+-- The settings that an endpoint keeps.
+abbrev pub settingsIn : Endpoint → Settings
+settingsIn e = record { packet = e .periodic .packet; burst = e .periodic .burst; interval = e .periodic .interval }
+
 -- An endpoint that has begun on the request in record r, under an id and from a place, with the request's packets written.
 module _ (lengths : List ℕ) (id place r : ℕ) (packets : List ℕ) (sized : length packets ≡ packetsSize) (within : r < recordCount) (e : Endpoint) (none-stored : e .work .stored ≡ 0) (number : e .work .number ≡ r) where
   pub asked-for : (request : Request) → tooLong (request .what) (request .length) lengths ≡ false → typed (request .what) ≡ true
       → e .work .address ≡ bufferOf request
       → upcoming (required request (length lengths)) e (recordFor request (length lengths) id place)
-      (writePackets packets r (request .what) lengths) ≡ trbsOf (e .periodic) request lengths
+      (writePackets packets r (request .what) lengths) ≡ trbsOf (settingsIn e) request lengths
   asked-for given = by (given .what)
     where
       by : (what : What) → tooLong what (given .length) lengths ≡ false → typed what ≡ true → e .work .address ≡ bufferOf given
           → upcoming (countFor what (given .length) (length lengths)) e (recordFor (withWhat given what) (length lengths) id place)
-          (writePackets packets r what lengths) ≡ trbsFor (e .periodic) what (given .address) (given .length) lengths
+          (writePackets packets r what lengths) ≡ trbsFor (settingsIn e) what (given .address) (given .length) lengths
       by (asks.Control type request value index) short fits at =
           control-asked type request value index given fits lengths id place short e none-stored
           (writePackets packets r (asks.Control type request value index) lengths)
@@ -250,16 +253,16 @@ control-count : (type request value index address size : ℕ) (incoming b : Bool
 control-count type request value index address size incoming true q = rw q
 control-count type request value index address size incoming false q = rw q
 
-pub trbs-count : (p : Periodic) (request : Request) (lengths : List ℕ) → length (trbsOf p request lengths) ≡ required request (length lengths)
-trbs-count p request lengths = counted (request .what) (request .address) (request .length)
+pub trbs-count : (s : Settings) (request : Request) (lengths : List ℕ) → length (trbsOf s request lengths) ≡ required request (length lengths)
+trbs-count s request lengths = counted (request .what) (request .address) (request .length)
   where
-    counted : (what : What) (address size : ℕ) → length (trbsFor p what address size lengths) ≡ countFor what size (length lengths)
+    counted : (what : What) (address size : ℕ) → length (trbsFor s what address size lengths) ≡ countFor what size (length lengths)
     counted (asks.Control type request value index) address size =
         control-count type request value index address size (eqb (bits 7 1 type) 1) (eqb size 0) refl
     counted (asks.Bulk incoming) address size = refl
     counted (asks.Interrupt incoming) address size = refl
     counted (asks.Isoch incoming) address size =
-        isoch-count incoming (p .packet) (p .burst) (addressStored address size) (atLeastOne lengths) ∙ at-least lengths
+        isoch-count incoming (s .packet) (s .burst) (addressStored address size) (atLeastOne lengths) ∙ at-least lengths
 
 -- ---- none is a link
 
@@ -279,15 +282,15 @@ module _ (K : ℕ) where
       (λ t. (plain-trb _ (λ q. omega arith), (plain-trb _ (λ q. omega arith), tt)))
       (λ t. (plain-trb _ (λ q. omega arith), (plain-trb _ (λ q. omega arith), (plain-trb _ (λ q. omega arith), tt))))
 
-  pub trbs-plain : (p : Periodic) (request : Request) (lengths : List ℕ) → Plain (flat K) (bared (trbsOf p request lengths))
-  trbs-plain p request lengths = plain (request .what) (request .address) (request .length)
+  pub trbs-plain : (s : Settings) (request : Request) (lengths : List ℕ) → Plain (flat K) (bared (trbsOf s request lengths))
+  trbs-plain s request lengths = plain (request .what) (request .address) (request .length)
     where
-      plain : (what : What) (address size : ℕ) → Plain (flat K) (bared (trbsFor p what address size lengths))
+      plain : (what : What) (address size : ℕ) → Plain (flat K) (bared (trbsFor s what address size lengths))
       plain (asks.Control type request value index) address size =
           control-plain type request value index address size (eqb (bits 7 1 type) 1)
       plain (asks.Bulk incoming) address size = (plain-trb _ (λ q. omega arith), tt)
       plain (asks.Interrupt incoming) address size = (plain-trb _ (λ q. omega arith), tt)
-      plain (asks.Isoch incoming) address size = isoch-plain incoming (p .packet) (p .burst) (addressStored address size) (atLeastOne lengths)
+      plain (asks.Isoch incoming) address size = isoch-plain incoming (s .packet) (s .burst) (addressStored address size) (atLeastOne lengths)
 
 pub link-is : (base : ℕ) (chain : Bool) → linkType (bare (linkTrb base chain)) ≡ true
 unfolding linkType

@@ -33,13 +33,14 @@ use Rattle.dock.specs.HandOver.{slotFor, foreign, handOverTests, handOverNo, ha
 use Rattle.dock.specs.Limits.{limitsHold}
 use Rattle.dock.specs.Make.{sized, makeTests, makeNo, make}
 use Rattle.dock.specs.Reclaim.{leave, mismatched, completeTests, complete, placeOf, reclaimBulk, reclaimControl, closeBelow, total, sweep, reclaimIso, reclaimTests, reclaimNo, reclaimFlying, reclaim}
-use Rattle.dock.specs.Run.{madeOf, making, configures, starts, stores, reclaims, cancels}
+use Rattle.dock.specs.Run.{madeOf, configures, starts, stores, reclaims, cancels}
 use Rattle.dock.specs.Start.{startNo, startTests, crowded, tooLong, beyond, charged, recordTaken, idTaken, startedEndpoint, startedRecords, writePackets, start}
 use Rattle.dock.specs.NextStore.{store, storeNo, storeTests, stepped, slotStored, ringStored, finishedStored, settled, storedAnswer}
 use Rattle.dock.specs.Trbs.{trbOf, trbCount, deferred, chained}
 use Rattle.dock.specs.Worth.{accepted, counts, worth}
 use Rattle.promise.specs.Controller.{Entry, does}
-use Rattle.promise.specs.Run.{World, fromMaking, admitted, Move, calls, hands, steps, act, may, admits, takes, isFor, handed, play, allowed, Run, made, andThen}
+use Rattle.promise.specs.Requested.{atMaking, requested}
+use Rattle.promise.specs.Run.{World, fromMaking, admitted, Move, calls, hands, steps, act, may, admits, isFor, handed, play, allowed, Run, made, andThen}
 use Rattle.promise.specs.Run as running
 
 -- A Success event for the TRB at a slot.
@@ -80,11 +81,11 @@ who = record { slot = 1; dci = 1; mask = 0xffffffff }
 
 outset : World
 unfolding makeNo makeTests make sized limitsHold
-outset = fromMaking (madeOf (make (tables 20) (tables 20) (tables recordsSize) (tables packetsSize) shape who))
+outset = fromMaking shape (madeOf (make (tables 20) (tables 20) (tables recordsSize) (tables packetsSize) shape who))
 
 -- The world after the moves, and whether each of them may be made in its turn.
 ended : World × Bool
-unfolding outset allowed play admits takes isFor handed running.stepped does accepted cycle.cycleOf owned typeOf wordsOf wordsAt put putWords storeAt isSlot slotOf finishedAt fillPlace packetAt putPacket recordAt setWord masks.held masks.lowest masks.taken masks.freed freeId freeFrom heldBy any findFrom findId cancel cancelNo cancelTests configure plainNo plainTests fits placesFit strays fitsWith nextOf slotFor foreign handOverTests handOverNo handOver limitsHold leave mismatched completeTests complete placeOf reclaimBulk reclaimControl closeBelow total sweep reclaimIso reclaimTests reclaimNo reclaimFlying reclaim startNo startTests crowded tooLong beyond charged recordTaken idTaken startedEndpoint startedRecords writePackets start store storeNo storeTests stepped slotStored ringStored finishedStored settled storedAnswer trbOf trbCount burstsOf packetsOf worth counts deferred chained
+unfolding outset allowed play admits isFor handed running.stepped does accepted cycle.cycleOf owned typeOf wordsOf wordsAt put putWords storeAt isSlot slotOf finishedAt fillPlace packetAt putPacket recordAt setWord masks.held masks.lowest masks.taken masks.freed freeId freeFrom heldBy any findFrom findId cancel cancelNo cancelTests configure plainNo plainTests fits placesFit strays fitsWith nextOf slotFor foreign handOverTests handOverNo handOver limitsHold leave mismatched completeTests complete placeOf reclaimBulk reclaimControl closeBelow total sweep reclaimIso reclaimTests reclaimNo reclaimFlying reclaim startNo startTests crowded tooLong beyond charged recordTaken idTaken startedEndpoint startedRecords writePackets start store storeNo storeTests stepped slotStored ringStored finishedStored settled storedAnswer trbOf trbCount burstsOf packetsOf worth counts deferred chained
 ended = (play outset moves, allowed outset moves)
 
 all-allowed : allowed outset moves ≡ true
@@ -101,7 +102,7 @@ run-played w (m ∷ ms) r e =
 
 reached : Run (play outset moves)
 unfolding outset deferred chained
-reached = run-played outset moves (made (making (tables 20) (tables 20) (tables recordsSize) (tables packetsSize) shape who refl)) all-allowed
+reached = run-played outset moves (made (tables 20) (tables 20) (tables recordsSize) (tables packetsSize) shape who refl) all-allowed
 
 abbrev entry : ℕ → ℕ → ℕ → ℕ → ℕ → Entry
 entry i a b c d = record { at = i; trb = record { w0 = a; w1 = b; w2 = c; w3 = d } }
@@ -134,3 +135,17 @@ at-rest : let w = play outset moves in
     × (w .controller ≡ record { slot = 0; state = true })
 unfolding ended
 at-rest = (refl, refl, refl, refl)
+
+-- What was asked at the end; and the configure that was refused while the control request was stored is not booked.
+all-asked : play outset moves .asked
+    ≡ record {
+      shape = shape;
+      settings = record { packet = 64; burst = 0; interval = 1 };
+      last = requested (asking (Isoch true) 0x40000 128) (64 ∷ 64 ∷ []);
+    }
+unfolding ended
+all-asked = refl
+
+refused-unbooked : play outset (bulk 0 0 1 ++ bulk 1 1 2 ++ bulk 2 2 3 ++ control) .asked .settings ≡ atMaking
+unfolding ended
+refused-unbooked = refl

@@ -31,6 +31,7 @@ use Rattle.dock.proofs.ReclaimLeaveLaws.{RecordsAfter}
 use Rattle.dock.specs.Run.{stateOf, configures, cancels}
 use Rattle.dock.proofs.RefusalLaws.{plain-exact, configure-acts, configure-refuses, cancel-exact, cancel-acts, cancel-refuses}
 use Rattle.promise.specs.Run.{World, withDock, calls, act}
+use Rattle.promise.proofs.Agreed.{configure-yes, configure-no}
 use Rattle.promise.proofs.Handed.{idle-kept}
 use Rattle.promise.proofs.Kept.{Kept, rests, Holds, Owner, Flights}
 
@@ -174,10 +175,10 @@ configured-kept w packet burst interval k =
     ⊎-elim
     (λ (p : plainNo e ≡ 0).
     let free : e .work .busy ≡ false = plain-exact e .passed p 1 (omega arith) in
-    rw (configure-acts e packet burst interval p)
+    rw (configure-yes w packet burst interval p, configure-acts e packet burst interval p)
     (idle-changes w k _ (w .dock .records) (w .dock .packets) (record { at = refl; shape = refl; account = refl; free = free; still = free })
     (same-same (w .dock .records))))
-    (λ (p : plainNo e ≡ 0 → ⊥). rw (configure-refuses e packet burst interval p) k)
+    (λ (p : plainNo e ≡ 0 → ⊥). rw (configure-no w packet burst interval p, configure-refuses e packet burst interval p) k)
     (same-or-not (plainNo e) 0)
 
 pub cancelled-kept : (w : World) (id : ℕ) → Kept w → Kept (act w (calls (cancels id)))

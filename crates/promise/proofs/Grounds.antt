@@ -4,7 +4,7 @@
 --   `not-overwritten`: no store overwrites a TRB that is not consumed, but the second store of a TD's first TRB, which stores the same TRB again.
 --   `event-latest`: the event in a finished place is of the latest TRB stored there, and that one is consumed.
 -- Assumes nothing.
-use Prim.Native.Nat.{ℕ, _+_, _-_, _<_, _≤_}
+use Prim.Native.Nat.{ℕ, suc, _+_, _-_, _<_, _≤_}
 use mathlib.Core.Bool.{Bool, true, false, false≢true}
 use mathlib.Core.List.{List}
 use mathlib.Core.Logic.{_⊎_, inl, inr, ⊎-elim}
@@ -58,13 +58,14 @@ use Rattle.order.proofs.Index.{pos, slot-lt, distinct}
 use Rattle.order.proofs.Moves.{pending, waiting, length-layout}
 use Rattle.order.proofs.Order.{Front}
 use Rattle.promise.specs.Requested.{slotOf}
-use Rattle.promise.specs.Run.{World, slots, admitted, storedCount, recordUnderWay, firstUnderWay, part, within, admits, handed, stepped, Move, calls, hands, steps, act, ofRuns, Run}
+use Rattle.promise.specs.Run.{World, slots, admitted, underWay, storedCount, part, within, admits, handed, stepped, Move, calls, hands, steps, act, ofRuns, Run}
+use Rattle.promise.proofs.Agreed.{recordUnderWay, firstUnderWay, Agreed, slots-are, deferred-is, run-agreed}
 use Rattle.promise.proofs.Awaited.{next-at}
 use Rattle.promise.proofs.Handed.{all-stored}
 use Rattle.promise.proofs.Kept.{modelIn, Under, rests, opens, shows, hides, Kept}
 use Rattle.promise.proofs.Laid.{bared, bared-length}
 use Rattle.promise.proofs.Order.{deferred-unseen}
-use Rattle.promise.proofs.Reach.{run-reached, run-sound, run-kept}
+use Rattle.promise.proofs.Reach.{run-reached, under-way-is, run-sound, run-kept}
 use Rattle.promise.proofs.Reclaimed.{place-at, left-heard}
 use Rattle.promise.proofs.Upcoming.{left-count}
 
@@ -76,9 +77,12 @@ outstanding-sum r = outstanding-is-sum (run-reached r)
 
 -- ---- how many TRBs are stored
 
-module _ (w : World) (k : Kept w) where
+module _ (w : World) (g : Agreed w) (k : Kept w) where
   abbrev e : Endpoint
   e = w .dock .endpoint
+
+  slots-so : slots w ≡ suc (k .K)
+  slots-so = slots-are w g ∙ k .shape
 
   some-place : 0 < k .K
   some-place = omega (arith, k .some-slot)
@@ -92,19 +96,19 @@ module _ (w : World) (k : Kept w) where
   to-come (shows u) busy = (rw (u .is) (left-count (k .K) e (w .dock .records) (w .dock .packets)), u .counted)
   to-come (hides u) busy = (rw (u .is) (left-count (k .K) e (w .dock .records) (w .dock .packets)), u .counted)
 
-  pub stored-is : k .stored ≡ storedCount w
+  pub stored-is : underWay w ≡ e .work .busy → k .stored ≡ storedCount w
   unfolding storedCount
-  stored-is =
+  stored-is u =
       ⊎-elim
       (λ (busy : e .work .busy ≡ true).
       let t = to-come (k .under) busy in
-      rw busy (omega (arith, t .0, t .1, k .split, k .begun busy .last)))
-      (λ (free : e .work .busy ≡ false). rw free (all-stored w k free))
+      rw (u ∙ busy) (omega (arith, t .0, t .1, k .split, k .begun busy .last, g .of-last busy .marked)))
+      (λ (free : e .work .busy ≡ false). rw (u ∙ free) (all-stored w k free))
       (true-or-false (e .work .busy))
 
   -- A TRB's slot, as the statement has it and as the model has it.
   slot-is : (n : ℕ) → slotOf (slots w) n ≡ (pos (k .K) n) .place
-  slot-is n = let same : slots w - 1 ≡ k .K = omega (arith, k .shape) in rw same (sym (place-at (k .K) some-place n))
+  slot-is n = let same : slots w - 1 ≡ k .K = omega (arith, slots-so) in rw same (sym (place-at (k .K) some-place n))
 
   -- Fewer than L-1 TRBs wait.
   few-wait : length (w .trbs) < length (w .consumed) + k .K
@@ -141,16 +145,17 @@ pub record EventOf (w : World) (i : ℕ) (event : Words) : Type 0 where
 pub event-latest : {w : World} → Run w → (i : ℕ) (event : Words) → i < slots w - 1 → finishedAt (w .dock .finished) i ≡ Event event
     → EventOf w i event
 event-latest {w} r i event below said =
+    let g = run-agreed r in
     let k = run-kept r in
-    let l = k .places i event (omega (arith, k .shape)) said in
-    let count = stored-is w k in
+    let l = k .places i event (omega (arith, slots-so w g k)) said in
+    let count = stored-is w g k (under-way-is r) in
     record {
       nth = l .latest;
-      there = slot-is w k (l .latest) ∙ l .there;
+      there = slot-is w g k (l .latest) ∙ l .there;
       stored = omega (arith, l .was-stored);
       latest = λ j was at.
           ⊎-elim
-          (λ (later : l .latest < j). absurd (omega (arith, round-behind w k (l .latest) j (l .there ∙ sym at ∙ slot-is w k j) later, l .not-again)))
+          (λ (later : l .latest < j). absurd (omega (arith, round-behind w g k (l .latest) j (l .there ∙ sym at ∙ slot-is w g k j) later, l .not-again)))
           (λ (h : j ≤ l .latest). h)
           (lt-or-le (l .latest) j);
       consumed = omega (arith, l .was-heard, k .heard-consumed);
@@ -159,30 +164,39 @@ event-latest {w} r i event below said =
 
 -- ---- the slot that a store changes
 
-module _ (w : World) (k : Kept w) (busy : w .dock .endpoint .work .busy ≡ true) (j : ℕ) (was : j < storedCount w) where
+module _ {w : World} (r : Run w) (busy : w .dock .endpoint .work .busy ≡ true) (j : ℕ) (was : j < storedCount w) where
+  g : Agreed w
+  g = run-agreed r
+
+  k : Kept w
+  k = run-kept r
+
   -- The link's slot is no TRB's.
-  not-link : w .dock .endpoint .at .place + 1 ≡ slots w → slotOf (slots w) j ≡ w .dock .endpoint .at .place → ⊥
-  not-link at-link same = omega (arith, slot-is w k j, slot-lt (k .K) (some-place w k) j, k .shape)
+  not-link : w .dock .endpoint .at .place + 1 ≡ w .dock .endpoint .shape .slots → slotOf (slots w) j ≡ w .dock .endpoint .at .place → ⊥
+  not-link at-link same = omega (arith, slot-is w g k j, slot-lt (k .K) (some-place w g k) j, k .shape)
 
   -- A TRB goes to a slot whose last TRB is a round behind.
-  behind-trb : (w .dock .endpoint .at .place + 1 ≡ slots w → ⊥) → slotOf (slots w) j ≡ w .dock .endpoint .at .place → j < length (w .consumed)
+  behind-trb : (w .dock .endpoint .at .place + 1 ≡ w .dock .endpoint .shape .slots → ⊥) → slotOf (slots w) j ≡ w .dock .endpoint .at .place
+      → j < length (w .consumed)
   behind-trb off same =
       let at = next-at w k (λ q. off (omega (arith, k .shape))) in
-      let far = round-behind w k j (k .stored) (sym (slot-is w k j) ∙ same ∙ sym at) (omega (arith, stored-is w k)) in
-      omega (arith, few-wait w k, k .split)
+      let far = round-behind w g k j (k .stored) (sym (slot-is w g k j) ∙ same ∙ sym at) (omega (arith, stored-is w g k (under-way-is r))) in
+      omega (arith, few-wait w g k, k .split)
 
   -- The first TRB is stored again in its own slot.
-  behind-first : length (w .consumed) ≤ firstUnderWay w → slotOf (slots w) j ≡ w .dock .endpoint .work .place
-      → (j < length (w .consumed)) ⊎ (j ≡ firstUnderWay w)
+  behind-first : length (w .consumed) ≤ w .earlier → slotOf (slots w) j ≡ w .dock .endpoint .work .place
+      → (j < length (w .consumed)) ⊎ (j ≡ w .earlier)
   behind-first unseen same =
       let b = k .begun busy in
-      let first = firstUnderWay w in
-      let in-one : (pos (k .K) j) .place ≡ (pos (k .K) first) .place = sym (slot-is w k j) ∙ same ∙ sym (b .first-at) in
+      let first = w .earlier in
+      let marked = g .of-last busy .marked in
+      let in-one : (pos (k .K) j) .place ≡ (pos (k .K) first) .place =
+      sym (slot-is w g k j) ∙ same ∙ sym (b .first-at) ∙ ap (λ (n : ℕ). (pos (k .K) n) .place) marked in
       ⊎-elim
       (λ (q : j ≡ first). inr q)
       (⊎-elim
-      (λ (h : j < first). inl (omega (arith, round-behind w k j first in-one h, few-wait w k, b .last)))
-      (λ (h : first < j). absurd (omega (arith, round-behind w k first j (sym in-one) h, few-wait w k, k .split, stored-is w k))))
+      (λ (h : j < first). inl (omega (arith, round-behind w g k j first in-one h, few-wait w g k, b .last, marked)))
+      (λ (h : first < j). absurd (omega (arith, round-behind w g k first j (sym in-one) h, few-wait w g k, k .split, stored-is w g k (under-way-is r)))))
       (compared j first)
 
 -- A front part of the first n of a list has n elements at most.
@@ -205,10 +219,13 @@ module _ (w : World) where
   unfolding slotStored
   slot-of-first q = ap (λ (n : Next). slotStored n (w .dock .endpoint)) q
 
-module _ {w : World} (r : Run w) (busy : w .dock .endpoint .work .busy ≡ true) (j : ℕ) (was : j < storedCount w)
+module _ {w : World} (r : Run w) (under : underWay w ≡ true) (j : ℕ) (was : j < storedCount w)
     (same : slotOf (slots w) j ≡ slotChanged (w .dock .endpoint) (w .dock .records)) where
   abbrev now : Next
   now = nextStore (w .dock .endpoint) (w .dock .records)
+
+  busy : w .dock .endpoint .work .busy ≡ true
+  busy = sym (under-way-is r) ∙ under
 
   some-store : isNone now ≡ false
   some-store =
@@ -216,20 +233,20 @@ module _ {w : World} (r : Run w) (busy : w .dock .endpoint .work .busy ≡ true)
       let row = store-number (run-reached r) ∙ ap (λ (b : Bool). pick b 0 10) busy in
       store-admitted (d .endpoint) (d .ring) (d .finished) (d .records) (d .packets) row .course .more
 
-  by-next : (n : Next) → now ≡ n → (j < length (w .consumed)) ⊎ ((now ≡ theFirst) × (j ≡ firstUnderWay w))
-  by-next theLink q = absurd (not-link w (run-kept r) busy j was (because (w .dock .endpoint) (recordUnderWay w) theLink q) (same ∙ slot-of-link w q))
-  by-next theTrb q = inl (behind-trb w (run-kept r) busy j was (because (w .dock .endpoint) (recordUnderWay w) theTrb q .0) (same ∙ slot-of-trb w q))
+  by-next : (n : Next) → now ≡ n → (j < length (w .consumed)) ⊎ ((now ≡ theFirst) × (j ≡ w .earlier))
+  by-next theLink q = absurd (not-link r busy j was (because (w .dock .endpoint) (recordUnderWay w) theLink q) (same ∙ slot-of-link w q))
+  by-next theTrb q = inl (behind-trb r busy j was (because (w .dock .endpoint) (recordUnderWay w) theTrb q .0) (same ∙ slot-of-trb w q))
   by-next theFirst q =
       let c = because (w .dock .endpoint) (recordUnderWay w) theFirst q in
-      let unseen = front-short (w .consumed) (admitted w) (firstUnderWay w) (deferred-unseen r busy (c .1)) in
+      let unseen = front-short (w .consumed) (admitted w) (w .earlier) (deferred-unseen r under (sym (deferred-is w (run-agreed r) busy) ∙ c .1)) in
       ⊎-elim
       (λ (l : j < length (w .consumed)). inl l)
-      (λ (z : j ≡ firstUnderWay w). inr (q, z))
-      (behind-first w (run-kept r) busy j was unseen (same ∙ slot-of-first w q))
+      (λ (z : j ≡ w .earlier). inr (q, z))
+      (behind-first r busy j was unseen (same ∙ slot-of-first w q))
   by-next fit.none q = absurd (false≢true (sym some-store ∙ ap isNone q))
 
   -- A TRB that is stored, in the slot that the next store changes: it is consumed, or it is the first of its TD, stored again.
-  pub not-overwritten : (j < length (w .consumed)) ⊎ ((nextStore (w .dock .endpoint) (w .dock .records) ≡ theFirst) × (j ≡ firstUnderWay w))
+  pub not-overwritten : (j < length (w .consumed)) ⊎ ((nextStore (w .dock .endpoint) (w .dock .records) ≡ theFirst) × (j ≡ w .earlier))
   not-overwritten = by-next now refl
 
 -- ---- a request leaves flight
@@ -243,6 +260,11 @@ module _ (w : World) (r : ℕ) where
   unfolding configure
   configures-keeps packet burst interval =
       picked (λ (c : Changed). c .endpoint .account ≡ w .dock .endpoint .account) (eqb (plainNo (w .dock .endpoint)) 0) _ _ (λ t. refl) (λ t. refl)
+
+  configures-flies : (packet burst interval : ℕ) → inFlight w r ≡ true
+      → flies (w .dock .records) (configure (w .dock .endpoint) packet burst interval .endpoint .account .occupancy) r ≡ true
+  configures-flies packet burst interval fly =
+      ap (λ (a : Account). flies (w .dock .records) (a .occupancy) r) (configures-keeps packet burst interval) ∙ fly
 
   stores-keeps : after (w .dock) stores .endpoint .account ≡ w .dock .endpoint .account
   stores-keeps =
@@ -324,10 +346,10 @@ module _ (w : World) (r : ℕ) where
 call-consumed : {w : World} → Run w → (c : Call) → within (part c) ≡ true → (r : ℕ) → inFlight w r ≡ true → inFlight (act w (calls c)) r ≡ false
     → w .first r + recordAt (w .dock .records) r .count ≤ length (w .consumed)
 call-consumed {w} run (configures packet burst interval) its r fly gone =
-    absurd (false≢true (sym gone ∙ ap (λ (a : Account). flies (w .dock .records) (a .occupancy) r)
-    (configures-keeps w r packet burst interval) ∙ fly))
+    absurd (false≢true (sym gone ∙ picked (λ (x : World). inFlight x r ≡ true) (admits w (configures packet burst interval)) _ _
+    (λ t. configures-flies w r packet burst interval fly) (λ t. configures-flies w r packet burst interval fly)))
 call-consumed {w} run (starts request lengths) its r fly gone =
-    absurd (false≢true (sym gone ∙ picked (λ (x : World). inFlight x r ≡ true) (admits w request lengths) _ _
+    absurd (false≢true (sym gone ∙ picked (λ (x : World). inFlight x r ≡ true) (admits w (starts request lengths)) _ _
     (λ t. starts-keeps w r request lengths fly) (λ t. starts-keeps w r request lengths fly)))
 call-consumed {w} run stores its r fly gone =
     absurd (false≢true (sym gone ∙ ap (λ (a : Account). flies (w .dock .records) (a .occupancy) r) (stores-keeps w r) ∙ fly))
@@ -344,8 +366,8 @@ call-consumed {w} run points its r fly gone = absurd (false≢true (sym gone ∙
 
 -- Whatever the move of a run: a request that was in flight before it and is not after it has all its TRBs consumed.
 pub leaves-consumed : {w : World} → Run w → (m : Move) → ofRuns m ≡ true → (r : ℕ) → inFlight w r ≡ true → inFlight (act w m) r ≡ false
-    → w .first r + recordAt (w .dock .records) r .count ≤ length (w .consumed)
+    → w .until r ≤ length (w .consumed)
 unfolding handed stepped
-leaves-consumed run (calls c) its r fly gone = call-consumed run c its r fly gone
+leaves-consumed run (calls c) its r fly gone = omega (arith, call-consumed run c its r fly gone, run-agreed run .ranges r fly)
 leaves-consumed run (hands event nth) its r fly gone = absurd (false≢true (sym gone ∙ fly))
 leaves-consumed run steps its r fly gone = absurd (false≢true (sym gone ∙ fly))

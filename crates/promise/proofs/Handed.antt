@@ -6,7 +6,6 @@ use mathlib.Core.List.{List}
 use mathlib.Core.Logic.{inl, ⊎-elim}
 use mathlib.Core.Path.{_≡_, refl, sym, ap, subst, _∙_}
 use native.Mathlib.Omega.{arith}
-use borrow.Author.Tests.{eqb-true, eqb-false}
 use lib.Dec.{eqb}
 use lib.ListN.{length, getD}
 use Rattle.base.proofs.Compare.{same-or-not}
@@ -21,6 +20,7 @@ use Rattle.finished.specs.Finished.{finishedAt, fillPlace}
 use Rattle.finished.specs.declared.Finished.the-variants.{Event}
 use Rattle.finished.proofs.FinishedLaws.{taken, kept, others-kept}
 use Rattle.dock.specs.declared.Endpoint.{Endpoint}
+use Rattle.dock.specs.declared.Shape.{Shape}
 use Rattle.dock.specs.HandOver.{slotNumber, slotFor, foreign, handOverTests, handOverNo}
 use Rattle.dock.specs.Reclaim.{codeOf}
 use Rattle.dock.specs.Worth.{accepted}
@@ -34,6 +34,7 @@ use Rattle.order.specs.Model as model
 use Rattle.order.proofs.Index.{pos, slot-lt}
 use Rattle.order.proofs.Moves.{pending}
 use Rattle.promise.specs.Run.{World, withHeard, takes, handed, slotAt, isFor}
+use Rattle.promise.proofs.Agreed.{Agreed, event-yes, event-no}
 use Rattle.promise.proofs.Awaited.{awaited, consumed-few, consumed-at}
 use Rattle.promise.proofs.Kept.{Kept, Under, rests, opens, shows, hides, Latest, Places, Flights}
 
@@ -132,18 +133,18 @@ module _ (K : ℕ) (finished : List ℕ) (stored heard n : ℕ) (event : Words)
 pub record IsFor (w : World) (event : Words) (n : ℕ) : Type 0 where
   pub after : w .heard ≤ n
   pub consumed : n < length (w .consumed)
-  pub address : eventOf event .address ≡ slotAddress (w .dock .endpoint .shape .base) (slotAt (w .consumed) n)
+  pub address : eventOf event .address ≡ slotAddress (w .asked .shape .base) (slotAt (w .consumed) n)
   pub fine : accepted (codeOf event) ≡ true
 
 pub is-for : (w : World) (event : Words) (n : ℕ) → isFor w event n ≡ true → IsFor w event n
 unfolding isFor
 is-for w event n t =
     let a = both (both (both (by-leb (w .heard) n) (by-ltb n (length (w .consumed))))
-    (by-eqb (eventOf event .address) (slotAddress (w .dock .endpoint .shape .base) (slotAt (w .consumed) n))))
+    (by-eqb (eventOf event .address) (slotAddress (w .asked .shape .base) (slotAt (w .consumed) n))))
     (by-true (accepted (codeOf event))) .so t in
     record { after = a .0 .0 .0; consumed = a .0 .0 .1; address = a .0 .1; fine = a .1 }
 
-module _ (w : World) (event : Words) (n : ℕ) (h : Sound (w .dock)) (k : Kept w) where
+module _ (w : World) (event : Words) (n : ℕ) (h : Sound (w .dock)) (g : Agreed w) (k : Kept w) where
   abbrev e : Endpoint
   e = w .dock .endpoint
 
@@ -162,7 +163,8 @@ module _ (w : World) (event : Words) (n : ℕ) (h : Sound (w .dock)) (k : Kept w
       let small : place < k .K = slot-lt (k .K) some-place n in
       let at : slotNumber (slotFor e event) ≡ place =
       ap (λ (a : ℕ). slotNumber (slotOf (e .shape .base) (e .shape .slots) a))
-      (f .address ∙ ap (slotAddress (e .shape .base)) (consumed-at w k n (f .consumed)))
+      (f .address ∙ ap (λ (x : Shape). slotAddress (x .base) (slotAt (w .consumed) n)) (sym (g .shape))
+      ∙ ap (slotAddress (e .shape .base)) (consumed-at w k n (f .consumed)))
       ∙ ap slotNumber (slot-found (e .shape .base) (e .shape .slots) place (omega (arith, k .shape))) in
       let all = all-stored w k free in
       let long = h .finishedLong in
@@ -195,12 +197,12 @@ module _ (w : World) (event : Words) (n : ℕ) (h : Sound (w .dock)) (k : Kept w
 
   -- A refused event is not bound, and changes nothing.
   pub handed-kept : (not (takes w event) || isFor w event n) ≡ true → Kept (handed w event n)
-  unfolding handed takes
+  unfolding handed
   handed-kept may =
       ⊎-elim
-      (λ (t : takes w event ≡ true).
-      let passed = eqb-true _ _ t in
-      rw (t, hand-over-acts e (w .dock .finished) event passed) (taken-kept passed (is-for w event n (rw t at may))))
-      (λ (t : takes w event ≡ false).
-      rw (t, hand-over-refuses e (w .dock .finished) event (eqb-false _ _ t)) k)
-      (true-or-false (takes w event))
+      (λ (p : handOverNo e (length (w .dock .finished)) event ≡ 0).
+      let taken = event-yes w event p in
+      rw (taken, hand-over-acts e (w .dock .finished) event p) (taken-kept p (is-for w event n (rw taken at may))))
+      (λ (p : handOverNo e (length (w .dock .finished)) event ≡ 0 → ⊥).
+      rw (event-no w event p, hand-over-refuses e (w .dock .finished) event p) k)
+      (same-or-not (handOverNo e (length (w .dock .finished)) event) 0)

@@ -25,6 +25,7 @@ use Rattle.dock.specs.declared.Endpoint.{Endpoint}
 use Rattle.dock.specs.RowOne.{flies, theTrb}
 use Rattle.dock.specs.Reclaim.{codeOf}
 use Rattle.dock.specs.NextStore.{stepped}
+use Rattle.dock.specs.Run.{State}
 use Rattle.dock.specs.Trbs.{trbCount, trbOf, deferred, firstTrb, linkFor}
 use Rattle.dock.specs.Worth.{accepted}
 use Rattle.order.specs.Flat.{flat}
@@ -34,7 +35,7 @@ use Rattle.order.proofs.Index.{pos}
 use Rattle.order.proofs.Moves.{Inv, pending}
 use Rattle.order.proofs.Numbers.{Numbered}
 use Rattle.promise.specs.Controller.{Entry}
-use Rattle.promise.specs.Run.{World, slots}
+use Rattle.promise.specs.Run.{World}
 use Rattle.promise.proofs.Laid.{bare, bared}
 
 -- ---- the ring side: a state of the model
@@ -182,20 +183,24 @@ pub record Flights (K : ℕ) (records : List ℕ) (occupancy : Occupancy) (first
 
 -- ---- all of it
 
-pub record Kept (w : World) : Type 0 where
+pub record KeptOf (d : State) (controller : Pointer) (consumed : List Entry) (trbs : List Trb) (first : ℕ → ℕ) (heard : ℕ) : Type 0 where
   pub K : ℕ
   pub some-slot : 2 ≤ K
-  pub shape : slots w ≡ suc K
-  pub link-slot : LinkSlot K (w .dock .endpoint .shape .base) (w .dock .ring)
+  pub shape : d .endpoint .shape .slots ≡ suc K
+  pub link-slot : LinkSlot K (d .endpoint .shape .base) (d .ring)
   pub before : ℕ
   pub work : model.Work (flat K)
-  pub inv : Inv (modelIn K w before work)
-  pub numbered : Numbered (modelIn K w before work) (bared (w .trbs))
-  pub under : Under K (w .dock .endpoint) (w .dock .records) (w .dock .packets) (w .first (w .dock .endpoint .work .number)) before work
-  pub begun : w .dock .endpoint .work .busy ≡ true → Begun K (w .dock .endpoint) (w .dock .records) (w .first) (length (w .trbs))
+  pub inv : Inv (modelOf K (d .ring) (d .endpoint .at) controller consumed trbs (d .endpoint .account .outstanding) before work)
+  pub numbered : Numbered (modelOf K (d .ring) (d .endpoint .at) controller consumed trbs (d .endpoint .account .outstanding) before work) (bared trbs)
+  pub under : Under K (d .endpoint) (d .records) (d .packets) (first (d .endpoint .work .number)) before work
+  pub begun : d .endpoint .work .busy ≡ true → Begun K (d .endpoint) (d .records) first (length trbs)
   -- how many TRBs are stored
   pub stored : ℕ
-  pub split : stored + length (pending work) ≡ length (w .trbs)
-  pub heard-consumed : w .heard ≤ length (w .consumed)
-  pub places : Places K (w .dock .finished) stored (w .heard)
-  pub flights : Flights K (w .dock .records) (w .dock .endpoint .account .occupancy) (w .first) (length (w .trbs)) (w .heard)
+  pub split : stored + length (pending work) ≡ length trbs
+  pub heard-consumed : heard ≤ length consumed
+  pub places : Places K (d .finished) stored heard
+  pub flights : Flights K (d .records) (d .endpoint .account .occupancy) first (length trbs) heard
+
+-- It does not know what was asked: only the TRBs that came of it.
+abbrev pub Kept : World → Type 0
+Kept w = KeptOf (w .dock) (w .controller) (w .consumed) (w .trbs) (w .first) (w .heard)

@@ -1,6 +1,8 @@
 pub mod Counting
 pub mod Laid
 pub mod Kept
+pub mod Asked
+pub mod Agreed
 pub mod Made
 pub mod Stepped
 pub mod Awaited
@@ -8,7 +10,6 @@ pub mod Handed
 pub mod Seen
 pub mod Flying
 pub mod Reclaimed
-pub mod Asked
 pub mod Started
 pub mod Upcoming
 pub mod Stored

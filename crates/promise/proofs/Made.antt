@@ -22,7 +22,7 @@ use Rattle.dock.specs.Make.{make, makeNo, makeTests, zeros}
 use Rattle.dock.specs.State.{fresh}
 use Rattle.dock.proofs.ReachedBookLaws.{by-flies}
 use Rattle.dock.proofs.ReachedSoundLaws.{not-done}
-use Rattle.dock.specs.Run.{State, stateOf, madeOf, Made, making}
+use Rattle.dock.specs.Run.{stateOf, madeOf}
 use Rattle.dock.proofs.RefusalLaws.{make-exact, make-refuses, make-acts}
 use Rattle.dock.proofs.RefusalTestLaws.{by-limits, by-sized}
 use Rattle.order.specs.Flat.{flat, getD-zeros, zeroed}
@@ -50,7 +50,7 @@ module _ (ring finished records packets : List ℕ) (shape : Shape) (who : Ident
   abbrev row : ℕ
   row = makeNo (length ring) (length finished) (length records) (length packets) shape who
 
-  fresh-kept : row ≡ 0 → Kept (fromMaking (stateOf (fresh shape who) (zeros ring) (zeros finished) (zeros records) (zeros packets)))
+  fresh-kept : row ≡ 0 → Kept (fromMaking shape (stateOf (fresh shape who) (zeros ring) (zeros finished) (zeros records) (zeros packets)))
   unfolding makeTests model.made
   fresh-kept passed =
       let tests = make-exact ring finished records packets shape who .passed passed in
@@ -79,14 +79,11 @@ module _ (ring finished records packets : List ℕ) (shape : Shape) (who : Ident
         };
       }
 
-  done-kept : make ring finished records packets shape who .0 .answer ≡ Done
-      → Kept (fromMaking (madeOf (make ring finished records packets shape who)))
-  done-kept done =
+  pub made-kept : make ring finished records packets shape who .0 .answer ≡ Done
+      → Kept (fromMaking shape (madeOf (make ring finished records packets shape who)))
+  made-kept done =
       ⊎-elim
       (λ (p : row ≡ 0). rw (make-acts ring finished records packets shape who p) (fresh-kept p))
       (λ (p : row ≡ 0 → ⊥).
       absurd (not-done row (sym (ap (λ m. m .0 .answer) (make-refuses ring finished records packets shape who p)) ∙ done)))
       (same-or-not row 0)
-
-pub made-kept : (d : State) → Made d → Kept (fromMaking d)
-made-kept d (making ring finished records packets shape who done) = done-kept ring finished records packets shape who done

@@ -18,6 +18,7 @@ use Rattle.order.specs.Flat.{flat, linkType}
 use Rattle.order.proofs.Invariant.{View, waits, follows, consumes, view}
 use Rattle.promise.specs.Controller.{does, goes}
 use Rattle.promise.specs.Run.{World, Run}
+use Rattle.promise.proofs.Agreed.{run-agreed}
 use Rattle.promise.proofs.Kept.{positionOf, pointerOf, Kept}
 use Rattle.promise.proofs.Reach.{run-sound, run-kept}
 
@@ -72,6 +73,6 @@ module _ (w : World) (h : Sound (w .dock)) (k : Kept w) where
       (true-or-false (eqb (typeOf t) 6))
 
 pub as-the-standard : {w : World} → Run w → owned (wordsAt (w .dock .ring) (w .controller .slot)) (w .controller) ≡ true
-    → goes (does (w .dock .ring) (w .controller)) (w .controller) ≡ past (w .dock .endpoint .shape .base)
+    → goes (does (w .dock .ring) (w .controller)) (w .controller) ≡ past (w .asked .shape .base)
     (wordsAt (w .dock .ring) (w .controller .slot)) (w .controller)
-as-the-standard {w} r own = kept-goes w (run-sound r) (run-kept r) own
+as-the-standard {w} r own = rw (← run-agreed r .shape) (kept-goes w (run-sound r) (run-kept r) own)

@@ -7,13 +7,12 @@ use mathlib.Core.Logic.{⊎-elim}
 use mathlib.Core.Option.{none}
 use mathlib.Core.Path.{_≡_, refl, sym, ap, ap₂, _∙_, subst}
 use native.Mathlib.Omega.{arith}
-use borrow.Author.Tests.{eq-eqb, ne-eqb, eqb-true, eqb-false}
+use borrow.Author.Tests.{eq-eqb, ne-eqb}
 use lib.Dec.{eqb}
 use lib.ListN.{length, length-append}
 use Rattle.base.proofs.Compare.{same-or-not, lt-or-le}
 use Rattle.base.proofs.Decide.{if-so}
 use Rattle.sizes.specs.Sizes.{recordCount}
-use Rattle.ids.proofs.AnyLaws.{true-or-false}
 use Rattle.mask.specs.Occupancy.{held}
 use Rattle.mask.specs.declared.Occupancy.{Occupancy}
 use Rattle.trb.specs.declared.Trb.{Trb}
@@ -42,8 +41,9 @@ use Rattle.order.proofs.Index.{pos}
 use Rattle.order.proofs.Moves.{Inv, begin-keeps, length-layout, resting, starts-pending}
 use Rattle.order.proofs.Numbers.{Numbered, begin-numbered}
 use Rattle.promise.specs.Requested.{trbsOf, typed}
-use Rattle.promise.specs.Run.{World, withFirst, withTrbs, admits, calls, act}
-use Rattle.promise.proofs.Asked.{asked-for, trbs-count, trbs-plain, link-is}
+use Rattle.promise.specs.Run.{World, withNumber, withRequest, calls, act}
+use Rattle.promise.proofs.Agreed.{Agreed, start-yes, start-no, same-trbs}
+use Rattle.promise.proofs.Asked.{settingsIn, asked-for, trbs-count, trbs-plain, link-is}
 use Rattle.promise.proofs.Awaited.{next-at}
 use Rattle.promise.proofs.Handed.{idle-kept, all-stored}
 use Rattle.promise.proofs.Kept.{positionOf, modelIn, linkWords, left, Under, opens, shows, Kept, Counts, Holds, Owner, Flights}
@@ -89,7 +89,7 @@ module _ (K : ℕ) (records after : List ℕ) (occupancy taken : Occupancy) (fir
     (flying : v .state ≡ inFlight) (at : (pos K total) .place ≡ v .place) (counts : Counts v)
     (f : Flights K records occupancy first total heard) where
   abbrev firsts : ℕ → ℕ
-  firsts = withFirst first r total
+  firsts = withNumber first r total
 
   here-first : firsts r ≡ total
   here-first = let q : eqb r r ≡ true = eq-eqb r r refl in rw q
@@ -184,7 +184,7 @@ module _ (K : ℕ) (e : Endpoint) (records packets : List ℕ) (mark before : �
 
 -- ---- an admitted start
 
-module _ (w : World) (request : Request) (lengths : List ℕ) (h : Sound (w .dock)) (k : Kept w) (fits : typed (request .what) ≡ true)
+module _ (w : World) (request : Request) (lengths : List ℕ) (h : Sound (w .dock)) (g : Agreed w) (k : Kept w) (fits : typed (request .what) ≡ true)
     (passed : startNo (w .dock .endpoint) (w .dock .records) (length (w .dock .packets)) request lengths ≡ 0) where
   abbrev e : Endpoint
   e = w .dock .endpoint
@@ -199,7 +199,7 @@ module _ (w : World) (request : Request) (lengths : List ℕ) (h : Sound (w .doc
   id = idTaken e old
 
   abbrev trbs : List Trb
-  trbs = trbsOf (e .periodic) request lengths
+  trbs = trbsOf (w .asked .settings) request lengths
 
   abbrev begunWith : Endpoint
   begunWith = startedEndpoint e old request lengths
@@ -241,17 +241,18 @@ module _ (w : World) (request : Request) (lengths : List ℕ) (h : Sound (w .doc
       rw (written, count)
       (ap bared
       (asked-for lengths id (e .at .place) r (w .dock .packets) (h .packetsLong)
-      (record-below e old (w .dock .packets) request lengths passed) begunWith refl refl request (s .short) fits refl))
+      (record-below e old (w .dock .packets) request lengths passed) begunWith refl refl request (s .short) fits refl
+      ∙ same-trbs (settingsIn begunWith) (w .asked .settings) request lengths (g .packet) (g .burst)))
 
   started-with : (t : Trb) (ts : List Trb) → trbs ≡ t ∷ ts
-      → Kept (withTrbs w (stateOf begunWith (w .dock .ring) (w .dock .finished) records packets) r trbs)
+      → Kept (withRequest w (stateOf begunWith (w .dock .ring) (w .dock .finished) records packets) r request lengths)
   unfolding startedEndpoint charged begin
   started-with t ts are =
       let K = k .K in
       let m = modelIn K w (k .before) (k .work) in
       let td = tdOf K begunWith kept t ts in
       let total = length (w .trbs) in
-      let count : length trbs ≡ required request (length lengths) = trbs-count (e .periodic) request lengths in
+      let count : length trbs ≡ required request (length lengths) = trbs-count (w .asked .settings) request lengths in
       let count-t : length trbs ≡ suc (length ts) = ap length are in
       let bare-t : length (bared ts) ≡ length ts = bared-length ts in
       let before = length (model.layout (flat K) (pos K 0) (bared (w .trbs))) in
@@ -260,22 +261,22 @@ module _ (w : World) (request : Request) (lengths : List ℕ) (h : Sound (w .doc
         none-under-way = still;
         running = refl;
         room = omega (arith, s .room, k .shape);
-        plain = subst (λ (l : List Trb). Plain (flat K) (bared l)) are (trbs-plain K (e .periodic) request lengths);
+        plain = subst (λ (l : List Trb). Plain (flat K) (bared l)) are (trbs-plain K (w .asked .settings) request lengths);
         linked = link-is (e .shape .base) (chained begunWith kept);
       } in
       let inv = begin-keeps some-place m (k .inv) td may in
       let num = begin-numbered some-place m (k .inv) td still (bared (w .trbs)) (k .numbered) in
       let joined : bared (w .trbs) ++ bare t ∷ bared ts ≡ bared (w .trbs ++ trbs) =
       sym (bared-append (w .trbs) trbs ∙ ap (λ (l : List Trb). bared (w .trbs) ++ bared l) are) in
-      let same : begin m td ≡ modelIn K (withTrbs w (stateOf begunWith (w .dock .ring) (w .dock .finished) records packets) r trbs) before
+      let same : begin m td ≡ modelIn K (withRequest w (stateOf begunWith (w .dock .ring) (w .dock .finished) records packets) r request lengths) before
       (starts td (deferred kept)) =
       ap₂ (λ (a : List (model.Entry (flat K))) (o : ℕ). model.booked m (starts td (deferred kept)) a before o)
       (num .by-number ∙ ap (model.layout (flat K) (pos K 0)) joined) (omega arith) in
       let all = all-stored w k (s .resting) in
-      let here : withFirst (w .first) r total r ≡ total = (let q : eqb r r ≡ true = eq-eqb r r refl in rw q refl) in
+      let here : withNumber (w .first) r total r ≡ total = (let q : eqb r r ≡ true = eq-eqb r r refl in rw q refl) in
       let its : trbCount (recordAt records r) ≡ required request (length lengths) =
       ap trbCount written ∙ count-is request lengths id (e .at .place) (s .short) in
-      let last : withFirst (w .first) r total r + trbCount (recordAt records r) ≡ length (w .trbs ++ trbs) =
+      let last : withNumber (w .first) r total r + trbCount (recordAt records r) ≡ length (w .trbs ++ trbs) =
       omega (arith, length-append (w .trbs) trbs) in
       let is-taken = record-taken e old (w .dock .packets) request lengths passed in
       let longer : length (w .trbs ++ trbs) ≡ total + required request (length lengths) = omega (arith, length-append (w .trbs) trbs) in
@@ -289,7 +290,7 @@ module _ (w : World) (request : Request) (lengths : List ℕ) (h : Sound (w .doc
         inv = subst (λ (x : model.State (flat K)). Inv x) same inv;
         numbered = subst (λ (x : model.State (flat K)). Numbered x (bared (w .trbs ++ trbs))) same (rw joined at num);
         under =
-            under-way K begunWith records packets (withFirst (w .first) r total r) before t ts refl refl (to-store ∙ ap bared are) refl
+            under-way K begunWith records packets (withNumber (w .first) r total r) before t ts refl refl (to-store ∙ ap bared are) refl
             (length-layout (flat K) (pos K 0) (bared (w .trbs)) ∙ bared-length (w .trbs) ∙ sym here);
         begun = λ b. record { last = last; first-at = ap (λ (n : ℕ). (pos K n) .place) here ∙ producer-at };
         stored = k .stored;
@@ -305,23 +306,21 @@ module _ (w : World) (request : Request) (lengths : List ℕ) (h : Sound (w .doc
             (record-counts request (length lengths) id (e .at .place)) (k .flights));
       }
 
-  pub admitted-kept : Kept (withTrbs w (stateOf begunWith (w .dock .ring) (w .dock .finished) records packets) r trbs)
+  pub admitted-kept : Kept (withRequest w (stateOf begunWith (w .dock .ring) (w .dock .finished) records packets) r request lengths)
   admitted-kept =
-      let c = cons-of trbs (omega (arith, trbs-count (e .periodic) request lengths, required-some (request .what) (request .length) (length lengths))) in
+      let c = cons-of trbs (omega (arith, trbs-count (w .asked .settings) request lengths, required-some (request .what) (request .length) (length lengths))) in
       started-with (c .0) (c .1 .0) (c .1 .1)
 
 -- ---- the call
 
-pub started-kept : (w : World) (request : Request) (lengths : List ℕ) → Sound (w .dock) → Kept w → typed (request .what) ≡ true
+pub started-kept : (w : World) (request : Request) (lengths : List ℕ) → Sound (w .dock) → Agreed w → Kept w → typed (request .what) ≡ true
     → Kept (act w (calls (dock.starts request lengths)))
-unfolding admits
-started-kept w request lengths h k fits =
+started-kept w request lengths h g k fits =
     let e = w .dock .endpoint in
     let old = w .dock .records in
     ⊎-elim
-    (λ (t : admits w request lengths ≡ true).
-    let passed = eqb-true _ _ t in
-    rw (t, start-acts e old (w .dock .packets) request lengths passed) (admitted-kept w request lengths h k fits passed))
-    (λ (t : admits w request lengths ≡ false).
-    rw (t, start-refuses e old (w .dock .packets) request lengths (eqb-false _ _ t)) k)
-    (true-or-false (admits w request lengths))
+    (λ (p : startNo e old (length (w .dock .packets)) request lengths ≡ 0).
+    rw (start-yes w request lengths p, start-acts e old (w .dock .packets) request lengths p) (admitted-kept w request lengths h g k fits p))
+    (λ (p : startNo e old (length (w .dock .packets)) request lengths ≡ 0 → ⊥).
+    rw (start-no w request lengths p, start-refuses e old (w .dock .packets) request lengths p) k)
+    (same-or-not (startNo e old (length (w .dock .packets)) request lengths) 0)

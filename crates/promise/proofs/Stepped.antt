@@ -27,8 +27,11 @@ module _ (K : ℕ) (w : World) (before : ℕ) (work : model.Work (flat K)) where
     dock = w .dock;
     controller = goes x (w .controller);
     consumed = with x (w .controller) (w .consumed);
+    asked = w .asked;
     trbs = w .trbs;
+    earlier = w .earlier;
     first = w .first;
+    until = w .until;
     heard = w .heard;
   }
 

@@ -15,8 +15,10 @@ use Rattle.base.proofs.Decide.{if-so, both, by-eqb}
 use Rattle.ids.proofs.AnyLaws.{true-or-false}
 use Rattle.dock.specs.declared.Changed.{Changed}
 use Rattle.dock.specs.declared.Endpoint.{Endpoint}
+use Rattle.dock.specs.declared.Identity.{Identity}
 use Rattle.dock.specs.declared.ReclaimedOne.{ReclaimedOne}
 use Rattle.dock.specs.declared.Request.{Request}
+use Rattle.dock.specs.declared.Shape.{Shape}
 use Rattle.dock.specs.declared.Stored.{Stored}
 use Rattle.dock.specs.declared.StoredAll.{StoredAll}
 use Rattle.dock.specs.declared.StoredOne.{StoredOne}
@@ -32,7 +34,7 @@ use Rattle.dock.specs.Submit as submitting
 use Rattle.dock.proofs.SubmitEndLaws.{submit-done}
 use Rattle.dock.proofs.ReachedSoundLaws.{Untouched, Looked, reclaim-result}
 use Rattle.dock.proofs.Reached.{Sound, flightPart}
-use Rattle.dock.specs.Run.{State, stateOf, madeOf, Made, making, Call, configures, starts, stores, submits, reclaims, cancels, retires, begins, ends, stops, resumes, points, after}
+use Rattle.dock.specs.Run.{State, stateOf, madeOf, Call, configures, starts, stores, submits, reclaims, cancels, retires, begins, ends, stops, resumes, points, after}
 use Rattle.dock.specs.Run as dock
 use Rattle.dock.proofs.ReclaimLaws.{Left}
 use Rattle.dock.proofs.RefusalLaws.{start-acts, start-refuses, store-exact, store-refuses, submit-acts, submit-refuses}
@@ -41,11 +43,11 @@ use Rattle.dock.proofs.StoreStepLaws.{store-goes-on, store-ends}
 use Rattle.dock.proofs.StoreLaws.{lastStore}
 use Rattle.order.proofs.Order.{Front}
 use Rattle.promise.specs.Requested.{typed}
-use Rattle.promise.specs.Run.{World, slots, admitted, part, handed, stepped, stepping, Move, calls, hands, steps, act, Run}
+use Rattle.promise.specs.Run.{World, slots, admitted, part, admits, underWay, handed, stepped, stepping, Move, calls, hands, steps, act, Run}
 use Rattle.promise.specs.Run as run
 use Rattle.promise.specs.Whole.{storing, submitted, isAside, between, WholeRun, made, andThen, andSubmits}
 use Rattle.promise.proofs.Order.{in-order, drains}
-use Rattle.promise.proofs.Reach.{booked-dock, run-sound}
+use Rattle.promise.proofs.Reach.{booked-dock, run-sound, under-way-is}
 
 -- ---- the stores of a submission, by themselves
 
@@ -150,7 +152,7 @@ storing-dock (suc n) pauses w =
     storing-dock n pauses (act (stepping (pauses n) w) (calls stores)) ∙ ap (λ (s : State). storesOf n (after s stores)) (stepping-dock (pauses n) w)
 
 started-dock : (w : World) (request : Request) (lengths : List ℕ) → act w (calls (starts request lengths)) .dock ≡ after (w .dock) (starts request lengths)
-started-dock w request lengths = booked-dock w _ (part (starts request lengths))
+started-dock w request lengths = booked-dock w _ (admits w (starts request lengths)) (part (starts request lengths))
 
 module _ (w : World) (h : Sound (w .dock)) (request : Request) (lengths : List ℕ) (pauses : ℕ → ℕ) where
   abbrev s : State
@@ -233,7 +235,7 @@ submitted-run w request lengths pauses fits r =
     storing-run (mostStores request (length lengths)) pauses (act w (calls (starts request lengths))) (run.andThen r (calls (starts request lengths)) fits)
 
 pub whole-run : {w : World} → WholeRun w → Run w
-whole-run (made m) = run.made m
+whole-run (made ring finished records packets shape who done) = run.made ring finished records packets shape who done
 whole-run (andThen r m other allowed) = run.andThen (whole-run r) m allowed
 whole-run (andSubmits {w} r request lengths pauses fits) = submitted-run w request lengths pauses fits (whole-run r)
 
@@ -275,20 +277,24 @@ call-rests s points other free = free
 between-rests : (w : World) (m : Move) → between m ≡ true → w .dock .endpoint .work .busy ≡ false → act w m .dock .endpoint .work .busy ≡ false
 unfolding handed stepped
 between-rests w (calls c) other free =
-    ap (λ (s : State). s .endpoint .work .busy) (booked-dock w _ (part c)) ∙ call-rests (w .dock) c other free
+    ap (λ (s : State). s .endpoint .work .busy) (booked-dock w _ (admits w c) (part c)) ∙ call-rests (w .dock) c other free
 between-rests w (hands event nth) other free = free
 between-rests w steps other free = free
 
-made-rests : (d : State) → Made d → d .endpoint .work .busy ≡ false
+made-rests : (ring finished records packets : List ℕ) (shape : Shape) (who : Identity)
+    → madeOf (make ring finished records packets shape who) .endpoint .work .busy ≡ false
 unfolding make
-made-rests d (making ring finished records packets shape who done) =
+made-rests ring finished records packets shape who =
     picked (λ (t : Changed × List ℕ × List ℕ × List ℕ × List ℕ). madeOf t .endpoint .work .busy ≡ false)
     (eqb (makeNo (length ring) (length finished) (length records) (length packets) shape who) 0) _ _ (λ t. refl) (λ t. refl)
 
-pub whole-rests : {w : World} → WholeRun w → w .dock .endpoint .work .busy ≡ false
-whole-rests (made {d} m) = made-rests d m
-whole-rests (andThen {w} r m other allowed) = between-rests w m other (whole-rests r)
-whole-rests (andSubmits {w} r request lengths pauses fits) = submitted-rests w (run-sound (whole-run r)) request lengths pauses (whole-rests r)
+dock-rests : {w : World} → WholeRun w → w .dock .endpoint .work .busy ≡ false
+dock-rests (made ring finished records packets shape who done) = made-rests ring finished records packets shape who
+dock-rests (andThen {w} r m other allowed) = between-rests w m other (dock-rests r)
+dock-rests (andSubmits {w} r request lengths pauses fits) = submitted-rests w (run-sound (whole-run r)) request lengths pauses (dock-rests r)
+
+pub whole-rests : {w : World} → WholeRun w → underWay w ≡ false
+whole-rests r = under-way-is (whole-run r) ∙ dock-rests r
 
 -- ---- the corollary
 
@@ -301,4 +307,4 @@ whole-drains r n enough = drains (whole-run r) (whole-rests r) n enough
 -- Whatever the controller does meanwhile, a whole submission leaves the dock as its definition says.
 pub whole-submits : {w : World} → WholeRun w → (request : Request) (lengths : List ℕ) (pauses : ℕ → ℕ)
     → submitted w request lengths pauses .dock ≡ after (w .dock) (submits request lengths)
-whole-submits {w} r request lengths pauses = submitted-is w (run-sound (whole-run r)) request lengths pauses (whole-rests r)
+whole-submits {w} r request lengths pauses = submitted-is w (run-sound (whole-run r)) request lengths pauses (dock-rests r)

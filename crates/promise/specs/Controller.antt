@@ -37,6 +37,6 @@ with waits c l = l
 with follows c l = l
 with (consumes t) c l = l ++ record { at = c .slot; trb = t } ∷ []
 
--- "The controller starts at slot 0 with cycle 1."
+-- It starts where the making puts the producer, at slot 0 with cycle 1.
 abbrev pub outset : Pointer
 outset = record { slot = 0; state = true }

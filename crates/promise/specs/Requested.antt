@@ -1,35 +1,39 @@
--- The TRBs of a request, from what it asks for (document 01, "Words of a TRB"), and where each of them must stand. Nothing here knows the ring.
+-- The TRBs of a request, from what it asks for and the settings that it is submitted under (document 01, "Words of a TRB"), and where each of them must
+-- stand. Nothing here knows the ring, nor the dock's state.
 use Prim.Native.Nat.{ℕ, suc, _+_, _-_, _/_, _%_, _^_}
 use mathlib.Core.Bool.{Bool, true, false, not, _&&_}
 use mathlib.Core.List.{List, [], _∷_}
 use lib.Dec.{eqb, ltb}
+use lib.ListN.{length}
 use Rattle.base.specs.First.{pick}
 use Rattle.base.specs.Fields.{bits}
 use Rattle.bursts.specs.Bursts.{burstsOf}
 use Rattle.trb.specs.Layouts.{wordsOf}
 use Rattle.trb.specs.declared.Trb.{Trb}
 use Rattle.trb.specs.declared.Trb.the-variants.{Normal, Setup, Data, Status, Isoch}
-use Rattle.dock.specs.declared.Periodic.{Periodic}
 use Rattle.dock.specs.declared.Request.{Request}
 use Rattle.dock.specs.declared.What.{What}
 use Rattle.dock.specs.declared.What.the-variants as asks
+use Rattle.dock.specs.Requests.{recordFor}
 use Rattle.dock.specs.Start.{atLeastOne}
+use Rattle.dock.specs.Trbs.{deferred}
 use Rattle.promise.specs.Controller.{Entry}
 
 -- ---- the TRBs of a request
 
--- "With a data length of 0 the address stored is 0."
+-- "With a data length of 0 the address stored is 0 (also with no buffer)".
 abbrev pub addressStored : ℕ → ℕ → ℕ
 addressStored address size = pick (eqb size 0) 0 address
 
--- "Setup: bits 16-17 = 0 no data, 2 out, 3 in. Data: short interrupt and bit 16 when in. Status: bit 16 clear exactly for in with data."
+-- Setup: "bits 16-17 = 0 no data, 2 out, 3 in". Data: "bit 2 (short interrupt) and bit 16 when in". Status: "bit 5 (interrupt), bit 16 clear exactly for in
+-- with data".
 abbrev pub controlTrbs : ℕ → ℕ → ℕ → ℕ → ℕ → ℕ → Bool → List Trb
 controlTrbs type request value index address size incoming =
     pick (eqb size 0)
     (Setup type request value index 0 0 ∷ Status true true ∷ [])
     (Setup type request value index size (pick incoming 3 2) ∷ Data address size incoming incoming ∷ Status true (not incoming) ∷ [])
 
--- "Normal: address, length, w3 bits 2 and 5."
+-- Normal: "address, length, w3 bits 2 and 5".
 abbrev pub normalTrbs : ℕ → ℕ → List Trb
 normalTrbs address size = Normal (addressStored address size) size 0 0 true false true ∷ []
 
@@ -37,23 +41,33 @@ abbrev pub some : List ℕ → Bool
 some [] = false
 some (n ∷ ns) = true
 
--- "Isoch: address; length, burst count; bit 2 when in, bit 5, bit 9 on all but the last packet, last-burst count, bit 31": one TRB a packet, the address
--- running on by each packet's length.
+-- Isoch: "address; w2 length, burst count at bit 17; w3 bit 2 when in, bit 5, bit 9 on all but the last packet, last-burst count at bit 16, bit 31": one TRB a
+-- packet, the address running on by each packet's length.
 abbrev pub isochTrbs : Bool → ℕ → ℕ → ℕ → List ℕ → List Trb
 isochTrbs incoming packet burst address [] = []
 isochTrbs incoming packet burst address (n ∷ ns) =
     Isoch address n (burstsOf n packet burst .count) 0 incoming false true (some ns) (burstsOf n packet burst .last) 0 true
     ∷ isochTrbs incoming packet burst ((address + n) % 2 ^ 64) ns
 
--- The TRBs of a request that is submitted under these periodic settings. "Request type (bit 7 is in)." "No packets means one packet of length 0."
-abbrev pub trbsFor : Periodic → What → ℕ → ℕ → List ℕ → List Trb
-trbsFor p (asks.Control type request value index) address size lengths = controlTrbs type request value index address size (eqb (bits 7 1 type) 1)
-trbsFor p (asks.Bulk incoming) address size lengths = normalTrbs address size
-trbsFor p (asks.Interrupt incoming) address size lengths = normalTrbs address size
-trbsFor p (asks.Isoch incoming) address size lengths = isochTrbs incoming (p .packet) (p .burst) (addressStored address size) (atLeastOne lengths)
+-- The settings that a configure gives: max packet size, burst and interval.
+pub record Settings : Type 0 where
+  pub packet : ℕ
+  pub burst : ℕ
+  pub interval : ℕ
 
-abbrev pub trbsOf : Periodic → Request → List ℕ → List Trb
-trbsOf p request lengths = trbsFor p (request .what) (request .address) (request .length) lengths
+-- Those of a dock that is made: "next frame, max packet and burst 0, interval 1".
+abbrev pub atMaking : Settings
+atMaking = record { packet = 0; burst = 0; interval = 1 }
+
+-- The TRBs of a request that is submitted under these settings. "request type (bit 7 is in)". "No packets means one packet of length 0".
+abbrev pub trbsFor : Settings → What → ℕ → ℕ → List ℕ → List Trb
+trbsFor s (asks.Control type request value index) address size lengths = controlTrbs type request value index address size (eqb (bits 7 1 type) 1)
+trbsFor s (asks.Bulk incoming) address size lengths = normalTrbs address size
+trbsFor s (asks.Interrupt incoming) address size lengths = normalTrbs address size
+trbsFor s (asks.Isoch incoming) address size lengths = isochTrbs incoming (s .packet) (s .burst) (addressStored address size) (atLeastOne lengths)
+
+abbrev pub trbsOf : Settings → Request → List ℕ → List Trb
+trbsOf s request lengths = trbsFor s (request .what) (request .address) (request .length) lengths
 
 -- The setup's fields are numbers of their types: u8, u8, u16, u16.
 abbrev pub typed : What → Bool
@@ -61,6 +75,33 @@ typed (asks.Control type request value index) = ltb type (2 ^ 8) && ltb request 
 typed (asks.Bulk incoming) = true
 typed (asks.Interrupt incoming) = true
 typed (asks.Isoch incoming) = true
+
+-- ---- the last request
+
+-- The last request that was admitted, with its packet lengths, if there was any.
+pub data Last : Type 0 where
+  never : Last
+  requested : Request → (lengths : List ℕ) → Last
+
+abbrev pub lastTrbs : Settings → Last → List Trb
+lastTrbs s never = []
+lastTrbs s (requested request lengths) = trbsOf s request lengths
+
+-- Whether it is a control request,
+abbrev pub isControl : What → Bool
+isControl (asks.Control type request value index) = true
+isControl (asks.Bulk incoming) = false
+isControl (asks.Interrupt incoming) = false
+isControl (asks.Isoch incoming) = false
+
+abbrev pub controls : Last → Bool
+controls never = false
+controls (requested request lengths) = isControl (request .what)
+
+-- and whether its TD stores its first TRB last: as its record says, under any id and at any place.
+abbrev pub defers : Last → Bool
+defers never = false
+defers (requested request lengths) = deferred (recordFor request (length lengths) 0 0)
 
 -- ---- where they stand
 

@@ -1,6 +1,7 @@
 -- A run: a dock that is made, any calls of it but retire and reset, in any order, refused or not, and steps of its controller anywhere, also between two
--- stores. The premises stand in `may`, and are document 01's: "an event handed over is for a TRB that the controller consumed, each at most once, in that
--- order, coded Success or Short Packet, between submissions". An event that the dock refuses is not bound by them, and one that comes while a submission is
+-- stores. What is asked is written down from the calls' arguments and the numbers of their answers; the list of admitted TRBs is computed from that, and
+-- nothing in it is read out of the dock's state. The premises stand in `may`: an event that is taken is for a TRB that the controller has consumed, each at
+-- most once, in that order, and coded Success or Short Packet. An event that the dock refuses is not bound by them, and one that comes while a submission is
 -- under way is refused (12). Not every consumed TRB need have an event.
 use Prim.Native.Nat.{ℕ, zero, suc, _+_}
 use mathlib.Core.Bool.{Bool, true, false, not, _&&_, _||_}
@@ -14,17 +15,27 @@ use Rattle.event.specs.Event.{eventOf}
 use Rattle.trb.specs.declared.Trb.{Trb}
 use Rattle.trb.specs.declared.Words.{Words}
 use Rattle.ring.specs.Ring.{slotAddress}
-use Rattle.records.specs.Records.{recordAt}
-use Rattle.records.specs.declared.Record.{Record}
+use Rattle.dock.specs.declared.Identity.{Identity}
+use Rattle.dock.specs.declared.Outcome.the-variants.{Done}
 use Rattle.dock.specs.declared.Request.{Request}
-use Rattle.dock.specs.HandOver.{handOverNo}
+use Rattle.dock.specs.declared.Shape.{Shape}
+use Rattle.dock.specs.Make.{make}
 use Rattle.dock.specs.Reclaim.{codeOf}
-use Rattle.dock.specs.Run.{State, Made, Call, configures, starts, stores, submits, reclaims, cancels, retires, begins, ends, stops, resumes, points, after}
+use Rattle.dock.specs.Run.{State, madeOf, Call, configures, starts, stores, submits, reclaims, cancels, retires, begins, ends, stops, resumes, points, after, answered}
 use Rattle.dock.specs.Run as dock
-use Rattle.dock.specs.Start.{startNo, recordTaken}
+use Rattle.dock.specs.Start.{recordTaken}
 use Rattle.dock.specs.Worth.{accepted}
 use Rattle.promise.specs.Controller.{Entry, does, goes, with, outset}
-use Rattle.promise.specs.Requested.{trbsOf, typed, laidOut}
+use Rattle.promise.specs.Requested.{Settings, atMaking, Last, never, requested, trbsOf, typed, laidOut}
+
+-- What was asked of the dock, by the arguments of the calls that were admitted.
+pub record Asked : Type 0 where
+  -- the slots and the base that the ring was made with
+  pub shape : Shape
+  -- the settings of the last configure, those of the making before any
+  pub settings : Settings
+  -- the last request
+  pub last : Last
 
 -- The dock with its tables, its controller, and the books that the theorem speaks of.
 pub record World : Type 0 where
@@ -32,24 +43,32 @@ pub record World : Type 0 where
   pub controller : Pointer
   -- what the controller has consumed, in order, as it read it
   pub consumed : List Entry
+  pub asked : Asked
   -- the TRBs of the requests that were admitted, in order
   pub trbs : List Trb
-  -- of each record, the number of the first TRB of the last request that was given it
+  -- how many of them were admitted before the last request
+  pub earlier : ℕ
+  -- of each record of the dock, the number of the first TRB of the last request that was given it, and one more than that of the last; the list does not
+  -- come of these
   pub first : ℕ → ℕ
+  pub until : ℕ → ℕ
   -- one more than the number of the last TRB that an event came for
   pub heard : ℕ
 
+-- L, as the ring was made.
 abbrev pub slots : World → ℕ
-slots w = w .dock .endpoint .shape .slots
+slots w = w .asked .shape .slots
 
--- THE LIST OF ADMITTED TRBS: computed from the requests by the layouts, and not from the ring.
+-- THE LIST OF ADMITTED TRBS: computed from what was asked, by the layouts, and neither from the ring nor from the dock's state.
 abbrev pub admitted : World → List Entry
 admitted w = laidOut (slots w) 0 (w .trbs)
 
 -- ---- what a move does
 
--- What a call is to a run: the start of a submission, a store of the one that is under way, a call beside submissions, or no call of these runs.
+-- What a call is to a run: a configure, the start of a submission, a store of the one that is under way, another call beside submissions, or no call of these
+-- runs.
 pub data Part : Type 0 where
+  setting : (packet burst interval : ℕ) → Part
   opening : Request → (lengths : List ℕ) → Part
   filling : Part
   aside : Part
@@ -57,7 +76,7 @@ pub data Part : Type 0 where
 
 -- A whole submission comes as its start and stores, and an event as a move of its own, with the turn of its TRB. Retire and reset are not in these runs.
 abbrev pub part : Call → Part
-part (configures packet burst interval) = aside
+part (configures packet burst interval) = setting packet burst interval
 part (starts request lengths) = opening request lengths
 part stores = filling
 part (submits request lengths) = outside
@@ -71,44 +90,90 @@ part stops = aside
 part resumes = aside
 part points = aside
 
+-- A call is admitted where the number of its answer is 0.
+unfoldable pub admits : World → Call → Bool
+admits w c = eqb (answered (w .dock) c .0) 0
+
+-- A submission is under way where the next store is served; with none under way a store answers 10.
+abbrev pub underWay : World → Bool
+underWay w = admits w stores
+
 abbrev pub withDock : World → State → World
-withDock w d = record { dock = d; controller = w .controller; consumed = w .consumed; trbs = w .trbs; first = w .first; heard = w .heard }
-
--- A start is admitted where its number is 0. Its TRBs are numbered on, and its record has the first of them.
-unfoldable pub admits : World → Request → List ℕ → Bool
-admits w request lengths =
-    let d = w .dock in
-    eqb (startNo (d .endpoint) (d .records) (length (d .packets)) request lengths) 0
-
-abbrev pub withFirst : (ℕ → ℕ) → ℕ → ℕ → ℕ → ℕ
-withFirst first r n q = pick (eqb q r) n (first q)
-
-abbrev pub withTrbs : World → State → ℕ → List Trb → World
-withTrbs w d r ts =
+withDock w d =
     record {
       dock = d;
       controller = w .controller;
       consumed = w .consumed;
-      trbs = w .trbs ++ ts;
-      first = withFirst (w .first) r (length (w .trbs));
+      asked = w .asked;
+      trbs = w .trbs;
+      earlier = w .earlier;
+      first = w .first;
+      until = w .until;
       heard = w .heard;
     }
 
--- The books after a call that leaves the dock so.
-abbrev pub booked : World → State → Part → World
-booked w d (opening request lengths) =
-    let e = w .dock .endpoint in
-    pick (admits w request lengths) (withTrbs w d (recordTaken e) (trbsOf (e .periodic) request lengths)) (withDock w d)
-booked w d filling = withDock w d
-booked w d aside = withDock w d
-booked w d outside = withDock w d
+-- A configure that is admitted gives the settings of the submissions that follow it.
+abbrev pub withSettings : World → State → ℕ → ℕ → ℕ → World
+withSettings w d packet burst interval =
+    record {
+      dock = d;
+      controller = w .controller;
+      consumed = w .consumed;
+      asked = record {
+        shape = w .asked .shape;
+        settings = record { packet = packet; burst = burst; interval = interval };
+        last = w .asked .last;
+      };
+      trbs = w .trbs;
+      earlier = w .earlier;
+      first = w .first;
+      until = w .until;
+      heard = w .heard;
+    }
 
--- An event is taken where its number is 0.
-unfoldable pub takes : World → Words → Bool
-takes w event = let d = w .dock in eqb (handOverNo (d .endpoint) (length (d .finished)) event) 0
+-- The TRBs of a request that is admitted are numbered on, and its record has their numbers.
+abbrev pub withNumber : (ℕ → ℕ) → ℕ → ℕ → ℕ → ℕ
+withNumber of r n q = pick (eqb q r) n (of q)
+
+abbrev pub withRequest : World → State → ℕ → Request → List ℕ → World
+withRequest w d r request lengths =
+    record {
+      dock = d;
+      controller = w .controller;
+      consumed = w .consumed;
+      asked = record { shape = w .asked .shape; settings = w .asked .settings; last = requested request lengths };
+      trbs = w .trbs ++ trbsOf (w .asked .settings) request lengths;
+      earlier = length (w .trbs);
+      first = withNumber (w .first) r (length (w .trbs));
+      until = withNumber (w .until) r (length (w .trbs) + length (trbsOf (w .asked .settings) request lengths));
+      heard = w .heard;
+    }
+
+-- The books after a call that leaves the dock so, by whether it was admitted.
+abbrev pub booked : World → State → Bool → Part → World
+booked w d granted (setting packet burst interval) = pick granted (withSettings w d packet burst interval) (withDock w d)
+booked w d granted (opening request lengths) = pick granted (withRequest w d (recordTaken (w .dock .endpoint)) request lengths) (withDock w d)
+booked w d granted filling = withDock w d
+booked w d granted aside = withDock w d
+booked w d granted outside = withDock w d
+
+-- An event is taken where the number of its answer is 0.
+abbrev pub takes : World → Words → Bool
+takes w event = admits w (dock.hands event)
 
 abbrev pub withHeard : World → State → ℕ → World
-withHeard w d n = record { dock = d; controller = w .controller; consumed = w .consumed; trbs = w .trbs; first = w .first; heard = n }
+withHeard w d n =
+    record {
+      dock = d;
+      controller = w .controller;
+      consumed = w .consumed;
+      asked = w .asked;
+      trbs = w .trbs;
+      earlier = w .earlier;
+      first = w .first;
+      until = w .until;
+      heard = n;
+    }
 
 unfoldable pub handed : World → Words → ℕ → World
 handed w event n = withHeard w (after (w .dock) (dock.hands event)) (pick (takes w event) (suc n) (w .heard))
@@ -118,7 +183,17 @@ unfoldable pub stepped : World → World
 stepped w =
     let c = w .controller in
     let x = does (w .dock .ring) c in
-    record { dock = w .dock; controller = goes x c; consumed = with x c (w .consumed); trbs = w .trbs; first = w .first; heard = w .heard }
+    record {
+      dock = w .dock;
+      controller = goes x c;
+      consumed = with x c (w .consumed);
+      asked = w .asked;
+      trbs = w .trbs;
+      earlier = w .earlier;
+      first = w .first;
+      until = w .until;
+      heard = w .heard;
+    }
 
 -- An event is handed over with the turn of the TRB that it is for, counted from 0 in the order of consumption.
 pub data Move : Type 0 where
@@ -127,12 +202,13 @@ pub data Move : Type 0 where
   steps : Move
 
 abbrev pub act : World → Move → World
-act w (calls c) = booked w (after (w .dock) c) (part c)
+act w (calls c) = booked w (after (w .dock) c) (admits w c) (part c)
 act w (hands event nth) = handed w event nth
 act w steps = stepped w
 
 -- Whether it is a move of these runs.
 abbrev pub within : Part → Bool
+within (setting packet burst interval) = true
 within (opening request lengths) = true
 within filling = true
 within aside = true
@@ -156,11 +232,12 @@ unfoldable pub isFor : World → Words → ℕ → Bool
 isFor w event n =
     leb (w .heard) n
     && ltb n (length (w .consumed))
-    && eqb (eventOf event .address) (slotAddress (w .dock .endpoint .shape .base) (slotAt (w .consumed) n))
+    && eqb (eventOf event .address) (slotAddress (w .asked .shape .base) (slotAt (w .consumed) n))
     && accepted (codeOf event)
 
 -- A request's setup fields are numbers of their types.
 abbrev pub wellTyped : Part → Bool
+wellTyped (setting packet burst interval) = true
 wellTyped (opening request lengths) = typed (request .what)
 wellTyped filling = true
 wellTyped aside = true
@@ -173,12 +250,25 @@ may w steps = true
 
 -- ---- runs
 
--- A dock as making leaves it, with its controller at the outset.
-abbrev pub fromMaking : State → World
-fromMaking d = record { dock = d; controller = outset; consumed = []; trbs = []; first = λ r. 0; heard = 0 }
+-- A dock as its making leaves it, with its controller at the outset: the ring has the shape that was given, and no request has come.
+abbrev pub fromMaking : Shape → State → World
+fromMaking shape d =
+    record {
+      dock = d;
+      controller = outset;
+      consumed = [];
+      asked = record { shape = shape; settings = atMaking; last = never };
+      trbs = [];
+      earlier = 0;
+      first = λ r. 0;
+      until = λ r. 0;
+      heard = 0;
+    }
 
 pub data Run : World → Type 0 where
-  made : {d : State} → Made d → Run (fromMaking d)
+  made : (ring finished records packets : List ℕ) (shape : Shape) (who : Identity)
+      → make ring finished records packets shape who .0 .answer ≡ Done
+      → Run (fromMaking shape (madeOf (make ring finished records packets shape who)))
   andThen : {w : World} → Run w → (m : Move) → may w m ≡ true → Run (act w m)
 
 -- Many steps of the controller.
@@ -186,18 +276,9 @@ unfoldable pub stepping : ℕ → World → World
 stepping zero w = w
 stepping (suc n) w = stepping n (stepped w)
 
--- The record of the submission under way, and the number of its first TRB.
-abbrev pub recordUnderWay : World → Record
-recordUnderWay w = recordAt (w .dock .records) (w .dock .endpoint .work .number)
-
-abbrev pub firstUnderWay : World → ℕ
-firstUnderWay w = w .first (w .dock .endpoint .work .number)
-
 -- How many TRBs are stored: all that are admitted but, while a submission is under way, those of it that are still to come.
 unfoldable pub storedCount : World → ℕ
-storedCount w =
-    let work = w .dock .endpoint .work in
-    pick (work .busy) (firstUnderWay w + work .stored) (length (w .trbs))
+storedCount w = pick (underWay w) (w .earlier + w .dock .endpoint .work .stored) (length (w .trbs))
 
 -- Many moves, and whether each may be made in its turn.
 unfoldable pub play : World → List Move → World

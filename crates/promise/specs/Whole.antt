@@ -4,11 +4,15 @@ use mathlib.Core.Bool.{Bool, true, false}
 use mathlib.Core.List.{List}
 use mathlib.Core.Path.{_≡_}
 use lib.ListN.{length}
+use Rattle.dock.specs.declared.Identity.{Identity}
+use Rattle.dock.specs.declared.Outcome.the-variants.{Done}
 use Rattle.dock.specs.declared.Request.{Request}
-use Rattle.dock.specs.Run.{State, Made, starts, stores}
+use Rattle.dock.specs.declared.Shape.{Shape}
+use Rattle.dock.specs.Make.{make}
+use Rattle.dock.specs.Run.{madeOf, starts, stores}
 use Rattle.dock.specs.Submit.{mostStores}
 use Rattle.promise.specs.Requested.{typed}
-use Rattle.promise.specs.Run.{World, Part, opening, filling, aside, outside, part, stepping, Move, calls, hands, steps, act, may, fromMaking}
+use Rattle.promise.specs.Run.{World, Part, setting, opening, filling, aside, outside, part, stepping, Move, calls, hands, steps, act, may, fromMaking}
 
 -- n stores, and before each as many steps of the controller as `pauses` says.
 unfoldable pub storing : ℕ → (ℕ → ℕ) → World → World
@@ -21,6 +25,7 @@ submitted w request lengths pauses = storing (mostStores request (length lengths
 
 -- The other moves.
 abbrev pub isAside : Part → Bool
+isAside (setting packet burst interval) = true
 isAside (opening request lengths) = false
 isAside filling = false
 isAside aside = true
@@ -32,7 +37,9 @@ between (hands event nth) = true
 between steps = true
 
 pub data WholeRun : World → Type 0 where
-  made : {d : State} → Made d → WholeRun (fromMaking d)
+  made : (ring finished records packets : List ℕ) (shape : Shape) (who : Identity)
+      → make ring finished records packets shape who .0 .answer ≡ Done
+      → WholeRun (fromMaking shape (madeOf (make ring finished records packets shape who)))
   andThen : {w : World} → WholeRun w → (m : Move) → between m ≡ true → may w m ≡ true → WholeRun (act w m)
   andSubmits : {w : World} → WholeRun w → (request : Request) (lengths : List ℕ) (pauses : ℕ → ℕ) → typed (request .what) ≡ true
       → WholeRun (submitted w request lengths pauses)
