@@ -28,4 +28,5 @@ pub mod StoreNextLaws
 pub mod StoreStepLaws
 pub mod SubmitEndLaws
 pub mod SubmitLaws
+pub mod SubmitNumberLaws
 pub mod TdLaws
