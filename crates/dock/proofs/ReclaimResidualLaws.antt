@@ -22,11 +22,11 @@ use Rattle.dock.proofs.ReclaimAnswerLaws.{done-size, refused-not-done}
 
 -- ---- what a controller may write
 
--- A controller can tell of any bytes that it moved, at most those asked for.
-pub can-write : (t : Told) (requested n : ℕ) → n ≤ requested → (field : ℕ) × Writes t requested field n
-can-write residue requested n l = (requested - n, omega arith)
-can-write moved requested n l = (n, (refl, l))
-can-write nothing requested n l = (0, l)
+-- A controller can tell of any bytes that it moved, at most those asked for, where these are below 2^24.
+pub can-write : (t : Told) (requested n : ℕ) → requested < 2 ^ 24 → n ≤ requested → (field : ℕ) × Writes t requested field n
+can-write residue requested n small l = (requested - n, record { fits = omega arith; says = omega arith })
+can-write moved requested n small l = (n, record { fits = omega arith; says = (refl, l) })
+can-write nothing requested n small l = (0, record { fits = omega arith; says = l })
 
 taken-off : (requested field n : ℕ) → n + field ≡ requested → movedBytes requested field ≡ n
 taken-off requested field n is = omega arith
@@ -36,10 +36,10 @@ taken-off requested field n is = omega arith
 -- What a packet is worth is what the standard lets its event count for.
 pub worth-residual : {code : ℕ} {t : Told} → Tells code t → (requested field n : ℕ) → Writes t requested field n → worth code requested field ≡ bytes (credit t n)
 unfolding worth counts
-worth-residual success requested field n is = ap bytes (taken-off requested field n is)
-worth-residual shortPacket requested field n is = ap bytes (taken-off requested field n is)
-worth-residual stopped requested field n is = ap bytes (taken-off requested field n is)
-worth-residual stoppedShortPacket requested field n is = ap bytes (is .0)
+worth-residual success requested field n is = ap bytes (taken-off requested field n (is .says))
+worth-residual shortPacket requested field n is = ap bytes (taken-off requested field n (is .says))
+worth-residual stopped requested field n is = ap bytes (taken-off requested field n (is .says))
+worth-residual stoppedShortPacket requested field n is = ap bytes (is .says .0)
 worth-residual stoppedLengthInvalid requested field n is = refl
 
 -- ---- bulk, interrupt and control
@@ -47,8 +47,8 @@ worth-residual stoppedLengthInvalid requested field n is = refl
 -- Where the code is accepted (Success, Short Packet) the length less the field is the bytes moved.
 pub moved-residual : {code : ℕ} {t : Told} → Tells code t → accepted code ≡ true → (requested field n : ℕ) → Writes t requested field n → movedBytes requested field ≡ n
 unfolding accepted
-moved-residual success a requested field n is = taken-off requested field n is
-moved-residual shortPacket a requested field n is = taken-off requested field n is
+moved-residual success a requested field n is = taken-off requested field n (is .says)
+moved-residual shortPacket a requested field n is = taken-off requested field n (is .says)
 moved-residual stopped a requested field n is = absurd (false≢true a)
 moved-residual stoppedShortPacket a requested field n is = absurd (false≢true a)
 moved-residual stoppedLengthInvalid a requested field n is = absurd (false≢true a)
