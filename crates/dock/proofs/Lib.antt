@@ -2,6 +2,7 @@
 pub mod Reached
 pub mod ReachedBookLaws
 pub mod ReachedFitLaws
+pub mod ReachedLengthLaws
 pub mod ReachedPacketLaws
 pub mod ReachedSoundLaws
 pub mod Readings
