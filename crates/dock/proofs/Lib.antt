@@ -7,6 +7,7 @@ pub mod ReachedPacketLaws
 pub mod ReachedSoundLaws
 pub mod Readings
 pub mod ReclaimAnswerLaws
+pub mod ReclaimBytesLaws
 pub mod ReclaimCountLaws
 pub mod ReclaimCreditLaws
 pub mod ReclaimLaws
