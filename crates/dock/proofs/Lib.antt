@@ -1,6 +1,7 @@
 -- The laws of the definitions, the states that are reached from making, and the readings from the bench.
 pub mod Reached
 pub mod ReachedBookLaws
+pub mod ReachedBytesLaws
 pub mod ReachedFitLaws
 pub mod ReachedLengthLaws
 pub mod ReachedPacketLaws

@@ -1,0 +1,82 @@
+-- In every state that is reached from making with nothing under way, a bulk, interrupt or control request that is reclaimed by its id and done is told
+-- exactly the bytes that a controller moved, for every event that the standard lets it write; and it can write one for any bytes up to those asked for.
+-- Assumes nothing.
+use Prim.Native.Nat.{ℕ, _+_, _^_, _≤_, _<_}
+use mathlib.Core.Bool.{true, false}
+use mathlib.Core.List.{List}
+use mathlib.Core.Logic.{_⊎_, ⊎-elim}
+use mathlib.Core.Path.{_≡_, _∙_}
+use native.Mathlib.Omega.{arith}
+use Rattle.sizes.specs.Sizes.{recordCount, packetCount, control, bulk, interrupt, isoch}
+use Rattle.trb.specs.declared.Words.{Words}
+use Rattle.finished.specs.Finished.{finishedAt}
+use Rattle.finished.specs.declared.Finished.the-variants as place
+use Rattle.packets.specs.Packets.{packetAt}
+use Rattle.records.specs.Records.{inFlight, recordAt}
+use Rattle.records.specs.declared.Record.{Record}
+use Rattle.dock.specs.declared.Endpoint.{Endpoint}
+use Rattle.dock.specs.Worth.{accepted}
+use Rattle.dock.specs.Residual.{Told, Tells, Writes}
+use Rattle.dock.specs.Reclaim.{codeOf, remainingOf, dataPlace, statusPlace, dataSeen}
+use Rattle.dock.specs.Run.{State, reclaims, after, answered, Reached}
+use Rattle.dock.proofs.ReachedSoundLaws.{reached-sound}
+use Rattle.dock.proofs.ReachedFitLaws.{reclaim-number}
+use Rattle.dock.proofs.ReachedLengthLaws.{reached-brief}
+use Rattle.dock.proofs.ReachedPacketLaws.{reached-modest}
+use Rattle.dock.proofs.ReclaimOnceLaws.{Has, held-found}
+use Rattle.dock.proofs.ReclaimResidualLaws.{can-write}
+use Rattle.dock.proofs.ReclaimBytesLaws.{doneWith, Due, Passes, bulk-exact, data-exact, recorded-told, unheard-told, moved-recorded, data-waits}
+
+-- A controller can tell of any bytes of a packet that it moved,
+pub packet-writes : {s : State} → Reached s → (r k : ℕ) → r < recordCount → k < packetCount → (t : Told) (n : ℕ) → n ≤ packetAt (s .packets) r k .requested
+    → (field : ℕ) × Writes t (packetAt (s .packets) r k .requested) field n
+packet-writes {s} h r k l small t n most = can-write t (packetAt (s .packets) r k .requested) n (omega (arith, reached-modest h r k l small)) most
+
+-- and of any other request's.
+pub record-writes : {s : State} → Reached s → (r : ℕ) → r < recordCount → (recordAt (s .records) r .kind ≡ isoch → ⊥)
+    → (t : Told) (n : ℕ) → n ≤ recordAt (s .records) r .length → (field : ℕ) × Writes t (recordAt (s .records) r .length) field n
+record-writes {s} h r l other t n most = can-write t (recordAt (s .records) r .length) n (omega (arith, reached-brief h r l .0 other)) most
+
+module _ {s : State} (h : Reached s) (idle : s .endpoint .work .busy ≡ false) (id r : ℕ) (l : r < recordCount) (has : Has s id r)
+    (flying : recordAt (s .records) r .state ≡ inFlight) (wanted : recordAt (s .records) r .cancelled ≡ false) where
+  abbrev e : Endpoint
+  e = s .endpoint
+
+  abbrev v : Record
+  v = recordAt (s .records) r
+
+  due : Due e (s .finished) (s .records) (s .packets) id r
+  due = record { admitted = reclaim-number h id ∙ rw idle; holder = held-found s (reached-sound h) id r l has; flying = flying; wanted = wanted }
+
+  -- ---- bulk and interrupt
+
+  pub reached-bulk : (v .kind ≡ bulk) ⊎ (v .kind ≡ interrupt) → (w : Words) → finishedAt (s .finished) (v .place) ≡ place.Event w → accepted (codeOf w) ≡ true
+      → (t : Told) (n : ℕ) → Tells (codeOf w) t → Writes t (v .length) (remainingOf w) n → answered s (reclaims id) ≡ doneWith v id n
+  reached-bulk = bulk-exact e (s .finished) (s .records) (s .packets) id r due
+
+  -- ---- control
+
+  module _ (kind : v .kind ≡ control) (setup : Passes (finishedAt (s .finished) (v .place))) where
+    brief : v .length + 1 < 2 ^ 64
+    brief = omega (arith, reached-brief h r l .1 kind)
+
+    module _ (d : Words) (some : 0 < v .length) (stands : finishedAt (s .finished) (dataPlace e v) ≡ place.Event d) (b : accepted (codeOf d) ≡ true)
+        (t : Told) (n : ℕ) (says : Tells (codeOf d) t) (is : Writes t (v .length) (remainingOf d) n) where
+      -- With a data event the status event tells its bytes;
+      pub reached-data : (w : Words) → finishedAt (s .finished) (statusPlace e v) ≡ place.Event w → accepted (codeOf w) ≡ true → answered s (reclaims id) ≡ doneWith v id n
+      reached-data w here a =
+          data-exact e (s .finished) (s .records) (s .packets) id r due kind setup w here a d some stands b (omega (arith, brief)) t n says is
+
+      -- before that they are recorded.
+      pub reached-records : recordAt (after s (reclaims id) .records) r .recorded ≡ n + 1
+      reached-records = moved-recorded e (s .finished) (s .records) (s .packets) id r due kind setup d some stands b brief t n says is
+
+    module _ (w : Words) (here : finishedAt (s .finished) (statusPlace e v) ≡ place.Event w) (a : accepted (codeOf w) ≡ true)
+        (empty : dataSeen e (s .finished) v ≡ place.Nothing) where
+      -- Without one it tells what is recorded,
+      pub reached-recorded : (n : ℕ) → v .recorded ≡ n + 1 → answered s (reclaims id) ≡ doneWith v id n
+      reached-recorded n = recorded-told e (s .finished) (s .records) (s .packets) id r due kind setup w here a n empty
+
+      -- or the length asked for.
+      pub reached-unheard : v .recorded ≡ 0 → answered s (reclaims id) ≡ doneWith v id (v .length)
+      reached-unheard = unheard-told e (s .finished) (s .records) (s .packets) id r due kind setup w here a empty
