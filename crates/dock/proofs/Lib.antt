@@ -5,6 +5,7 @@ pub mod ReachedBytesLaws
 pub mod ReachedFitLaws
 pub mod ReachedLengthLaws
 pub mod ReachedPacketLaws
+pub mod ReachedRecordLaws
 pub mod ReachedSoundLaws
 pub mod Readings
 pub mod ReclaimAnswerLaws
