@@ -64,9 +64,16 @@ passes-on : (f : Finished) (e : Endpoint) (v : Record) (number : ℕ) → Passes
 passes-on place.Nothing e v number p = refl
 passes-on (place.Event w) e v number p = rw p
 
--- What is recorded stands one above the length.
-recorded-is : (v : Record) (n : ℕ) → v .recorded ≡ n + 1 → recordedLength v (v .recorded) ≡ n
-recorded-is v n was = rw was (picked (λ (x : ℕ). x ≡ n) (eqb (n + 1) 0) _ _ (λ z. omega (arith, eqb-true (n + 1) 0 z)) (λ z. omega arith))
+-- What is recorded stands one above the length, and 0 is nothing.
+recorded-is : (v : Record) (n : ℕ) → v .recorded ≡ n + 1 → recordedLength v (recordedBy place.Nothing v) ≡ n
+recorded-is v n was =
+    let recorded : ℕ = recordedBy place.Nothing v in
+    picked (λ (x : ℕ). x ≡ n) (eqb recorded 0) _ _ (λ z. omega (arith, eqb-true recorded 0 z)) (λ z. omega arith)
+
+unheard-is : (v : Record) → v .recorded ≡ 0 → recordedLength v (recordedBy place.Nothing v) ≡ v .length
+unheard-is v was =
+    let recorded : ℕ = recordedBy place.Nothing v in
+    picked (λ (x : ℕ). x ≡ v .length) (eqb recorded 0) (v .length) (recorded - 1) (λ z. refl) (λ z. absurd (eqb-false recorded 0 z (omega arith)))
 
 recorded-less : (v : Record) (n : ℕ) → n ≤ v .length → v .length < 2 ^ 64 → recordedLength v ((n + 1) % 2 ^ 64) ≡ n
 recorded-less v n l fits =
@@ -173,11 +180,13 @@ module _ (e : Endpoint) (finished records packets : List ℕ) (id r : ℕ) (h : 
 
       -- where no data event stands what an earlier reclaim recorded,
       pub recorded-told : (n : ℕ) → seen ≡ place.Nothing → v .recorded ≡ n + 1 → reclaimedNumber (result .0 .answer) ≡ doneWith v id n
-      recorded-told n empty was = control-told (rw empty tt) ∙ rw (empty, recorded-is v n was)
+      recorded-told n empty was =
+          control-told (rw empty tt) ∙ ap (doneWith v id) (ap (λ (f : Finished). recordedLength v (recordedBy f v)) empty ∙ recorded-is v n was)
 
       -- and the length asked for where none did.
       pub unheard-told : seen ≡ place.Nothing → v .recorded ≡ 0 → reclaimedNumber (result .0 .answer) ≡ doneWith v id (v .length)
-      unheard-told empty was = control-told (rw empty tt) ∙ rw (empty, was)
+      unheard-told empty was =
+          control-told (rw empty tt) ∙ ap (doneWith v id) (ap (λ (f : Finished). recordedLength v (recordedBy f v)) empty ∙ unheard-is v was)
 
     -- A reclaim that finds the data's event records it,
     module _ (d : Words) (some : 0 < v .length) (stands : finishedAt finished (dataPlace e v) ≡ place.Event d) (b : accepted (codeOf d) ≡ true)

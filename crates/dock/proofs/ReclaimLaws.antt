@@ -105,7 +105,7 @@ Measured v = v .recorded ≤ v .length + 1
 
 -- So is what a look at the data event records.
 pub recorded-by : (f : Finished) (v : Record) → Measured v → recordedBy f v ≤ v .length + 1
-recorded-by place.Nothing v m = m
+recorded-by place.Nothing v m = omega arith
 recorded-by (place.Event w) v m = omega arith
 
 pub record OwnRecord (number : ℕ) (records after : List ℕ) : Type 0 where
