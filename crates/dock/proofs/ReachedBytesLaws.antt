@@ -63,7 +63,8 @@ module _ {s : State} (h : Reached s) (idle : s .endpoint .work .busy ≡ false) 
     module _ (d : Words) (some : 0 < v .length) (stands : finishedAt (s .finished) (dataPlace e v) ≡ place.Event d) (b : accepted (codeOf d) ≡ true)
         (t : Told) (n : ℕ) (says : Tells (codeOf d) t) (is : Writes t (v .length) (remainingOf d) n) where
       -- With a data event the status event tells its bytes;
-      pub reached-data : (w : Words) → finishedAt (s .finished) (statusPlace e v) ≡ place.Event w → accepted (codeOf w) ≡ true → answered s (reclaims id) ≡ doneWith v id n
+      pub reached-data : (w : Words) → finishedAt (s .finished) (statusPlace e v) ≡ place.Event w → accepted (codeOf w) ≡ true
+          → answered s (reclaims id) ≡ doneWith v id n
       reached-data w here a =
           data-exact e (s .finished) (s .records) (s .packets) id r due kind setup w here a d some stands b (omega (arith, brief)) t n says is
 

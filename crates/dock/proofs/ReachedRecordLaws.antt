@@ -101,7 +101,8 @@ module _ (s : State) (r : ℕ) where
       (λ t. same-whole v v refl)
 
   -- A start takes a record that is free.
-  start-stays : (request : Request) (lengths : List ℕ) → held (s .endpoint .account .occupancy) r ≡ true → Same v (recordAt (after s (starts request lengths) .records) r)
+  start-stays : (request : Request) (lengths : List ℕ) → held (s .endpoint .account .occupancy) r ≡ true
+      → Same v (recordAt (after s (starts request lengths) .records) r)
   unfolding start
   start-stays request lengths mine =
       let e = s .endpoint in

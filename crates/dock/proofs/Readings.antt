@@ -163,14 +163,15 @@ w9 =
 
     late : State → State
     late s =
-        stateOf (withAccount (s .endpoint) (record { next = lastId; occupancy = s .endpoint .account .occupancy; outstanding = s .endpoint .account .outstanding }))
+        let a = s .endpoint .account in
+        stateOf (withAccount (s .endpoint) (record { next = lastId; occupancy = a .occupancy; outstanding = a .outstanding }))
         (s .ring) (s .finished) (s .records) (s .packets)
 
 -- W10: L 5, base 10000, place 3, cycle 1, a control request of 18 bytes in: stores 3 (w3 00030840), 4 (the link), 0, 1, 3 (w3 00030841); place 2,
--- cycle 0. Place 3 is where three bulk requests leave it that are reclaimed.
+-- cycle 0. Three bulk requests that are done leave place 3.
 w10 : Bool
 w10 =
-    let s = ran (dockOf 5) (bulk 131072 64 ∷ event 0 1 0 ∷ reclaims 1 ∷ bulk 131072 64 ∷ event 1 1 0 ∷ reclaims 2 ∷ bulk 131072 64 ∷ event 2 1 0 ∷ reclaims 3 ∷ []) in
+    let s = ran (dockOf 5) (through 0 1 ++ through 1 2 ++ through 2 3) in
     let begun = ran s (starts (asking (Control 128 6 256 0) 131072 18) [] ∷ []) in
     let one = ran begun (stores ∷ []) in
     let two = ran one (stores ∷ []) in
@@ -184,6 +185,10 @@ w10 =
     && tells three stores 0 (1 ∷ []) && eqb (wordIn four 1 3) 4128
     && tells four stores 0 (3 ∷ 4 ∷ 1 ∷ []) && eqb (wordIn all 3 3) 198721
     && eqb (all .endpoint .at .place) 2 && not (all .endpoint .at .cycle) && not (all .endpoint .work .busy)
+  where
+    -- A bulk request at slot i, from its submission to its reclaim.
+    through : ℕ → ℕ → List Call
+    through i id = bulk 131072 64 ∷ event i 1 0 ∷ reclaims id ∷ []
 
 -- The table.
 others : List Bool

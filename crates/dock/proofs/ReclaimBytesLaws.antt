@@ -175,7 +175,8 @@ module _ (e : Endpoint) (finished records packets : List ℕ) (id r : ℕ) (h : 
         pub data-told : reclaimedNumber (result .0 .answer) ≡ doneWith v id (v .length - remainingOf d)
         data-told = event-told (v .length - remainingOf d) (recorded-less v (v .length - remainingOf d) (omega arith) fits)
 
-        pub data-exact : (t : Told) (n : ℕ) → Tells (codeOf d) t → Writes t (v .length) (remainingOf d) n → reclaimedNumber (result .0 .answer) ≡ doneWith v id n
+        pub data-exact : (t : Told) (n : ℕ) → Tells (codeOf d) t → Writes t (v .length) (remainingOf d) n
+            → reclaimedNumber (result .0 .answer) ≡ doneWith v id n
         data-exact t n says is = event-told n (data-moved e v r d t says n is b fits)
 
       -- where no data event stands what an earlier reclaim recorded,
@@ -199,7 +200,8 @@ module _ (e : Endpoint) (finished records packets : List ℕ) (id r : ℕ) (h : 
       data-recorded =
           let n : ℕ = v .length - remainingOf d + 1 in
           ap (λ (x : ReclaimedOne × List ℕ × List ℕ). wordAt (x .1) r recordedWord) is-control
-          ∙ rw (data-seen d some stands) (word-set records r recordedWord (n % 2 ^ 64) (let l = within in omega (arith, records-long)) ∙ mod-eq-of-lt (omega arith))
+          ∙ rw (data-seen d some stands)
+          (word-set records r recordedWord (n % 2 ^ 64) (let l = within in omega (arith, records-long)) ∙ mod-eq-of-lt (omega arith))
 
       pub moved-recorded : (t : Told) (n : ℕ) → Tells (codeOf d) t → Writes t (v .length) (remainingOf d) n → recordAt (result .1) r .recorded ≡ n + 1
       moved-recorded t n says is = data-recorded ∙ ap (λ (x : ℕ). x + 1) (moved-residual says b (v .length) (remainingOf d) n is)

@@ -7,7 +7,11 @@ use mathlib.Core.Path.{_≡_, refl, ap, _∙_, subst}
 use native.Mathlib.Omega.{arith}
 use borrow.Author.Tests.{eqb-true, eqb-false}
 use lib.Dec.{eqb}
+use Rattle.trb.specs.Layouts.{wordsIn}
 use Rattle.trb.specs.declared.Words.{Words}
+use Rattle.event.specs.Event.{eventOf, eventLayout}
+use Rattle.event.specs.declared.Event.{Event}
+use Rattle.event.proofs.EventLaws.{event-reads}
 use Rattle.finished.specs.Finished.{finishedAt}
 use Rattle.finished.specs.declared.Finished.the-variants as place
 use Rattle.records.specs.declared.Record.{Record}
@@ -27,6 +31,28 @@ pub can-write : (t : Told) (requested n : ℕ) → requested < 2 ^ 24 → n ≤ 
 can-write residue requested n small l = (requested - n, record { fits = omega arith; says = omega arith })
 can-write moved requested n small l = (n, record { fits = omega arith; says = (refl, l) })
 can-write nothing requested n small l = (0, record { fits = omega arith; says = l })
+
+code-small : {code : ℕ} {t : Told} → Tells code t → code < 2 ^ 8
+code-small success = omega arith
+code-small shortPacket = omega arith
+code-small stopped = omega arith
+code-small stoppedShortPacket = omega arith
+code-small stoppedLengthInvalid = omega arith
+
+-- Laid out in the four words of an event, for a TRB at any address and for any slot id and dci, it is read as it was written.
+pub can-tell : {code : ℕ} {t : Told} → Tells code t → (slot dci address : ℕ) → slot < 2 ^ 8 → dci < 2 ^ 5 → address < 2 ^ 64
+    → (requested n : ℕ) → requested < 2 ^ 24 → n ≤ requested
+    → (w : Words) × (field : ℕ)
+    × (eventOf w ≡ record { form = 32; slot = slot; endpoint = dci; address = address; remaining = field; code = code }) × Writes t requested field n
+can-tell {code} {t} says slot dci address a b c requested n small most =
+    let written = can-write t requested n small most in
+    let event : Event = record { form = 32; slot = slot; endpoint = dci; address = address; remaining = written .0; code = code } in (
+      wordsIn (eventLayout event true),
+      written .0,
+      event-reads event true
+      (record { form = omega arith; slot = a; endpoint = b; address = c; remaining = written .1 .fits; code = code-small says }),
+      written .1,
+    )
 
 taken-off : (requested field n : ℕ) → n + field ≡ requested → movedBytes requested field ≡ n
 taken-off requested field n is = omega arith
