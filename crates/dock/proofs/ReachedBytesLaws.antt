@@ -3,9 +3,9 @@
 -- Assumes nothing.
 use Prim.Native.Nat.{ℕ, _+_, _^_, _≤_, _<_}
 use mathlib.Core.Bool.{true, false}
-use mathlib.Core.List.{List}
-use mathlib.Core.Logic.{_⊎_, ⊎-elim}
-use mathlib.Core.Path.{_≡_, _∙_}
+use mathlib.Core.List.{[]}
+use mathlib.Core.Logic.{_⊎_}
+use mathlib.Core.Path.{_≡_, ap, _∙_}
 use native.Mathlib.Omega.{arith}
 use Rattle.sizes.specs.Sizes.{recordCount, packetCount, control, bulk, interrupt, isoch}
 use Rattle.trb.specs.declared.Words.{Words}
@@ -15,6 +15,8 @@ use Rattle.packets.specs.Packets.{packetAt}
 use Rattle.records.specs.Records.{inFlight, recordAt}
 use Rattle.records.specs.declared.Record.{Record}
 use Rattle.dock.specs.declared.Endpoint.{Endpoint}
+use Rattle.dock.specs.declared.ReclaimedOne.{ReclaimedOne}
+use Rattle.dock.specs.Numbers.{reclaimedNumber}
 use Rattle.dock.specs.Worth.{accepted}
 use Rattle.dock.specs.Residual.{Told, Tells, Writes}
 use Rattle.dock.specs.Reclaim.{codeOf, remainingOf, dataPlace, statusPlace, dataSeen}
@@ -68,7 +70,13 @@ module _ {s : State} (h : Reached s) (idle : s .endpoint .work .busy ≡ false) 
       reached-data w here a =
           data-exact e (s .finished) (s .records) (s .packets) id r due kind setup w here a d some stands b (omega (arith, brief)) t n says is
 
-      -- before that they are recorded.
+      -- before that the answer is 10,
+      pub reached-waits : finishedAt (s .finished) (statusPlace e v) ≡ place.Nothing → answered s (reclaims id) ≡ (10, [])
+      reached-waits empty =
+          ap (λ (x : ReclaimedOne). reclaimedNumber (x .answer))
+          (data-waits e (s .finished) (s .records) (s .packets) id r due kind setup d some stands b brief empty)
+
+      -- and either way they are recorded.
       pub reached-records : recordAt (after s (reclaims id) .records) r .recorded ≡ n + 1
       reached-records = moved-recorded e (s .finished) (s .records) (s .packets) id r due kind setup d some stands b brief t n says is
 

@@ -1,14 +1,14 @@
 -- In every state that is reached from making no record of a bulk or interrupt request asks for more than 65,536 bytes, and none of a control request for
 -- more than 65,535. Assumes nothing.
-use Prim.Native.Nat.{ℕ, zero, suc, _+_, _*_, _^_, _≤_, _<_}
-use mathlib.Core.Bool.{Bool, true, false}
+use Prim.Native.Nat.{ℕ, zero, suc, _+_, _*_, _≤_, _<_}
+use mathlib.Core.Bool.{false}
 use mathlib.Core.List.{List}
 use mathlib.Core.Logic.{_⊎_, ⊎-elim}
-use mathlib.Core.Path.{_≡_, refl, ap, _∙_}
+use mathlib.Core.Path.{_≡_, refl, _∙_}
 use native.Mathlib.Omega.{arith}
 use borrow.Author.Tests.{eqb-true, ltb-false}
-use lib.Dec.{eqb, ltb}
-use lib.ListN.{length, getD}
+use lib.Dec.{eqb}
+use lib.ListN.{length}
 use Rattle.base.proofs.Compare.{same-or-not}
 use Rattle.sizes.specs.Sizes.{recordCount, recordWords, longest, longestControl, control, isoch}
 use Rattle.mask.specs.declared.Occupancy.{Occupancy}
@@ -19,7 +19,6 @@ use Rattle.records.specs.Records.{stopped, stateWord, cancelledWord, wordAt, re
 use Rattle.records.specs.declared.Record.{Record}
 use Rattle.records.proofs.RecordLaws.{word-kept}
 use Rattle.dock.specs.declared.Changed.{Changed}
-use Rattle.dock.specs.declared.Endpoint.{Endpoint}
 use Rattle.dock.specs.declared.Identity.{Identity}
 use Rattle.dock.specs.declared.Outcome.{Outcome}
 use Rattle.dock.specs.declared.Outcome.the-variants.{Done}
@@ -27,11 +26,10 @@ use Rattle.dock.specs.declared.Request.{Request}
 use Rattle.dock.specs.declared.Shape.{Shape}
 use Rattle.dock.specs.declared.What.{What}
 use Rattle.dock.specs.declared.What.the-variants.{Control, Bulk, Interrupt, Isoch}
-use Rattle.dock.specs.declared.ReclaimedOne.{ReclaimedOne}
 use Rattle.dock.specs.RowOne.{flies}
 use Rattle.dock.specs.Make.{zeros, makeNo, make}
-use Rattle.dock.specs.Requests.{kindOf, recordFor}
-use Rattle.dock.specs.Start.{tooLong, recordTaken, idTaken, startNo, startedRecords, start}
+use Rattle.dock.specs.Requests.{kindOf}
+use Rattle.dock.specs.Start.{tooLong, recordTaken, startNo, start}
 use Rattle.dock.specs.Reclaim.{reclaim}
 use Rattle.dock.specs.Cancel.{marked, cancelNo, cancel}
 use Rattle.dock.specs.Retire.{retiredBelow, recordNo, retire}

@@ -1,7 +1,7 @@
 -- In every state that is reached from making, each call but a reclaim of its own id leaves of a held record what a later reclaim tells of it: id, kind,
 -- direction, length, place, and what was recorded of its data. Assumes nothing.
-use Prim.Native.Nat.{ℕ, zero, suc, _+_, _*_, _<_}
-use mathlib.Core.Bool.{true, false}
+use Prim.Native.Nat.{ℕ, zero, suc, _<_}
+use mathlib.Core.Bool.{true}
 use mathlib.Core.List.{List}
 use mathlib.Core.Path.{_≡_, refl, sym, ap, _∙_}
 use native.Mathlib.Omega.{arith}
@@ -15,14 +15,14 @@ use Rattle.ids.specs.Lookup.{findIn}
 use Rattle.ids.specs.declared.Lookup.{Lookup}
 use Rattle.ids.specs.declared.Lookup.the-variants.{At, Nothing}
 use Rattle.ids.proofs.AnyLaws.{never-both}
-use Rattle.records.specs.Records.{stopped, stateWord, cancelledWord, isSet, wordAt, recordAt, setWord}
+use Rattle.records.specs.Records.{stopped, stateWord, cancelledWord, isSet, wordAt, recordAt}
 use Rattle.records.specs.declared.Record.{Record}
 use Rattle.records.proofs.RecordLaws.{word-kept}
 use Rattle.dock.specs.declared.Changed.{Changed}
 use Rattle.dock.specs.declared.Outcome.{Outcome}
 use Rattle.dock.specs.declared.Request.{Request}
 use Rattle.dock.specs.RowOne.{flies}
-use Rattle.dock.specs.Start.{recordTaken, startNo, start}
+use Rattle.dock.specs.Start.{startNo, start}
 use Rattle.dock.specs.Cancel.{marked, cancelNo, cancel}
 use Rattle.dock.specs.Retire.{retiredBelow, recordNo, retire}
 use Rattle.dock.specs.Run.{State, Call, configures, starts, stores, submits, hands, reclaims, cancels, retires, begins, ends, stops, resumes, points, after, Reached}

@@ -13,7 +13,6 @@ use Rattle.ids.specs.Lookup.{findFrom, findId}
 use Rattle.base.specs.Fields.{bits}
 use Rattle.base.specs.Part.{put}
 use Rattle.trb.specs.Layouts.{wordsOf, wordsAt, putWords}
-use Rattle.trb.specs.declared.Words.{Words}
 use Rattle.bursts.specs.Bursts.{burstsOf, packetsOf}
 use Rattle.ring.specs.Ring.{storeAt, isSlot, slotOf}
 use Rattle.finished.specs.Finished.{finishedAt, fillPlace}

@@ -2,23 +2,22 @@
 -- the data's event tells, now or at an earlier reclaim, or the length asked for where no data event came; with an event that the standard lets a
 -- controller write for n bytes moved, exactly n. Assumes nothing.
 use Prim.Native.Nat.{ℕ, _+_, _-_, _%_, _^_, _<_, _≤_}
-use mathlib.Core.Bool.{Bool, true, false, not, _&&_, _||_}
+use mathlib.Core.Bool.{true, false, not, _&&_}
 use mathlib.Core.List.{List, [], _∷_}
 use mathlib.Core.Logic.{_⊎_, ⊎-elim}
-use mathlib.Core.Path.{_≡_, refl, sym, ap, _∙_}
+use mathlib.Core.Path.{_≡_, refl, ap, _∙_}
 use native.Mathlib.Nat.{mod-eq-of-lt}
 use native.Mathlib.Omega.{arith}
 use borrow.Author.Tests.{eqb-true, eqb-false, eq-eqb, ne-eqb, not-false}
 use lib.Dec.{eqb, ltb}
 use lib.ListN.{length}
 use Rattle.base.specs.Fields.{flag}
-use Rattle.base.specs.First.{pick}
 use Rattle.base.proofs.Chosen.{quiet}
 use Rattle.base.proofs.Decide.{both, by-eqb}
 use Rattle.mask.specs.Occupancy.{held}
-use Rattle.sizes.specs.Sizes.{ringSize, recordCount, recordWords, recordsSize, packetsSize, control, bulk, interrupt, isoch}
-use Rattle.ids.specs.Free.{idAt, heldBy}
-use Rattle.ids.specs.Lookup.{Finds, findIn}
+use Rattle.sizes.specs.Sizes.{ringSize, recordCount, recordsSize, packetsSize, control, bulk, interrupt, isoch}
+use Rattle.ids.specs.Free.{idAt}
+use Rattle.ids.specs.Lookup.{findIn}
 use Rattle.ids.specs.declared.Lookup.{Lookup}
 use Rattle.ids.specs.declared.Lookup.the-variants.{At}
 use Rattle.ids.proofs.LookupLaws.{find-finds}
@@ -27,17 +26,16 @@ use Rattle.trb.specs.declared.Words.{Words}
 use Rattle.finished.specs.Finished.{finishedAt}
 use Rattle.finished.specs.declared.Finished.{Finished}
 use Rattle.finished.specs.declared.Finished.the-variants as place
-use Rattle.records.specs.Records.{inFlight, stopped, recordedWord, wordAt, recordAt, setWord}
+use Rattle.records.specs.Records.{inFlight, recordedWord, wordAt, recordAt, setWord}
 use Rattle.records.specs.declared.Record.{Record}
 use Rattle.records.proofs.RecordLaws.{id-is, word-set}
 use Rattle.dock.specs.declared.Endpoint.{Endpoint}
-use Rattle.dock.specs.declared.Reclaimed.the-variants as answer
 use Rattle.dock.specs.declared.ReclaimedOne.{ReclaimedOne}
 use Rattle.dock.specs.Numbers.{Numbered, reclaimedNumber}
 use Rattle.dock.specs.RowOne.{fitsWith}
 use Rattle.dock.specs.Worth.{accepted, movedBytes}
 use Rattle.dock.specs.Residual.{Told, Tells, Writes}
-use Rattle.dock.specs.Reclaim.{mismatched, complete, completion, codeOf, remainingOf, bulkBy, reclaimBulk, Seen, onward, ends, stageBy, recordedLength, statusBy, recordedBy, dataPlace, statusPlace, dataSeen, afterStage, recordsAfter, reclaimControl, reclaimTests, reclaimNo, reclaimFlying, reclaimFound, reclaim, nothing}
+use Rattle.dock.specs.Reclaim.{mismatched, complete, codeOf, remainingOf, reclaimBulk, onward, stageBy, recordedLength, statusBy, recordedBy, dataPlace, statusPlace, dataSeen, afterStage, reclaimControl, reclaimTests, reclaimNo, reclaimFlying, reclaimFound, reclaim, nothing}
 use Rattle.dock.proofs.RefusalLaws.{reclaim-acts}
 use Rattle.dock.proofs.ReachedSoundLaws.{by-fits-with}
 use Rattle.dock.proofs.RetireLaws.{picked}

@@ -50,7 +50,7 @@ can-tell {code} {t} says slot dci address a b c requested n small most =
       wordsIn (eventLayout event true),
       written .0,
       event-reads event true
-      (record { form = omega arith; slot = a; endpoint = b; address = c; remaining = written .1 .fits; code = code-small says }),
+          (record { form = omega arith; slot = a; endpoint = b; address = c; remaining = written .1 .fits; code = code-small says }),
       written .1,
     )
 

@@ -4,7 +4,7 @@ use Prim.Native.Nat.{ℕ, _+_}
 use mathlib.Core.Bool.{Bool, true, false, _&&_}
 use mathlib.Core.List.{List, [], _∷_}
 use mathlib.Core.Path.{_≡_, refl, sym, ap, _∙_}
-use borrow.Author.Tests.{eqb-true, eqb-false, eq-eqb, ne-eqb}
+use borrow.Author.Tests.{eqb-true, eqb-false, eq-eqb}
 use lib.Dec.{eqb}
 use lib.ListN.{length}
 use Rattle.base.specs.First.{pick}
@@ -12,26 +12,19 @@ use Rattle.base.proofs.Decide.{both, by-eqb, if-so}
 use Rattle.mask.specs.Occupancy as masks
 use Rattle.mask.specs.declared.Occupancy.{Occupancy}
 use Rattle.sizes.specs.Sizes.{ringSize}
-use Rattle.dock.specs.declared.Account.{Account}
 use Rattle.dock.specs.declared.Endpoint.{Endpoint}
-use Rattle.dock.specs.declared.Identity.{Identity}
-use Rattle.dock.specs.declared.Flags.{Flags}
 use Rattle.dock.specs.declared.Request.{Request}
-use Rattle.dock.specs.declared.Shape.{Shape}
-use Rattle.dock.specs.declared.Work.{Work}
 use Rattle.dock.specs.declared.StoredAll.{StoredAll}
 use Rattle.dock.specs.Numbers.{submittedNumber}
 use Rattle.dock.specs.Requests.{required}
-use Rattle.dock.specs.Start.{crowded, tooLong, isFull, beyond, numberFrom, startNo, recordTaken, idTaken, charged, startedEndpoint, startedRecords, writePackets}
-use Rattle.dock.specs.Submit.{submit, mostStores, finish}
-use Rattle.dock.specs.Run.{State, Call, submits, after, answered, Reached, next}
-use Rattle.dock.proofs.Reached.{Sound}
+use Rattle.dock.specs.Start.{crowded, tooLong, isFull, beyond, numberFrom, startNo, recordTaken, charged, startedEndpoint}
+use Rattle.dock.specs.Submit.{submit}
+use Rattle.dock.specs.Run.{State, submits, after, answered, Reached, next}
 use Rattle.dock.proofs.RefusalLaws.{submit-acts, submit-refuses}
 use Rattle.dock.proofs.RefusalRowLaws.{start-rows}
 use Rattle.dock.proofs.ReachedSoundLaws.{reached-sound}
 use Rattle.dock.proofs.ReachedFitLaws.{reached-fits-with}
-use Rattle.dock.proofs.RetireLaws.{picked}
-use Rattle.dock.proofs.SubmitEndLaws.{start-finishes, submit-done}
+use Rattle.dock.proofs.SubmitEndLaws.{start-finishes}
 
 -- ---- the ledger
 
