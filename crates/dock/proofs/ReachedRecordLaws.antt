@@ -1,5 +1,5 @@
 -- In every state that is reached from making, each call but a reclaim of its own id leaves of a held record what a later reclaim tells of it: id, kind,
--- direction, length, place, and what was recorded of its data. Assumes nothing.
+-- direction, length, place, and what was recorded of its data; and so do any such calls in a row. Assumes nothing.
 use Prim.Native.Nat.{ℕ, zero, suc, _<_}
 use mathlib.Core.Bool.{true}
 use mathlib.Core.List.{List}
@@ -25,7 +25,7 @@ use Rattle.dock.specs.RowOne.{flies}
 use Rattle.dock.specs.Start.{startNo, start}
 use Rattle.dock.specs.Cancel.{marked, cancelNo, cancel}
 use Rattle.dock.specs.Retire.{retiredBelow, recordNo, retire}
-use Rattle.dock.specs.Run.{State, Call, configures, starts, stores, submits, hands, reclaims, cancels, retires, begins, ends, stops, resumes, points, after, Reached}
+use Rattle.dock.specs.Run.{State, Call, configures, starts, stores, submits, hands, reclaims, cancels, retires, begins, ends, stops, resumes, points, after, Reached, next}
 use Rattle.dock.proofs.SubmitLaws.{submit-keeps}
 use Rattle.dock.proofs.StartLaws.{record-free, records-kept}
 use Rattle.dock.proofs.ReclaimOnceLaws.{Has, reclaim-other-record}
@@ -52,6 +52,16 @@ same-whole before after q = record {
   size = ap (λ (x : Record). x .length) q;
   place = ap (λ (x : Record). x .place) q;
   recorded = ap (λ (x : Record). x .recorded) q;
+}
+
+same-on : (a b c : Record) → Same a b → Same b c → Same a c
+same-on a b c p q = record {
+  id = q .id ∙ p .id;
+  kind = q .kind ∙ p .kind;
+  incoming = q .incoming ∙ p .incoming;
+  size = q .size ∙ p .size;
+  place = q .place ∙ p .place;
+  recorded = q .recorded ∙ p .recorded;
 }
 
 same-words : (records : List ℕ) (r : ℕ) (after : List ℕ) → Stays records r after → Same (recordAt records r) (recordAt after r)
@@ -134,3 +144,21 @@ record-stays {s} h (ends worked) r l mine apart = same-whole _ _ refl
 record-stays {s} h stops r l mine apart = same-whole _ _ refl
 record-stays {s} h resumes r l mine apart = same-whole _ _ refl
 record-stays {s} h points r l mine apart = same-whole _ _ refl
+
+-- ---- since a state
+
+-- State t comes after s by calls that leave record r held and are no reclaim of its id.
+pub data Since (r : ℕ) (s : State) : State → Type 0 where
+  same : Since r s s
+  then : {t : State} → Since r s t → held (t .endpoint .account .occupancy) r ≡ true → (c : Call) → ((id : ℕ) → c ≡ reclaims id → Has t id r → ⊥)
+      → Since r s (after t c)
+
+pub since-reached : {r : ℕ} {s t : State} → Reached s → Since r s t → Reached t
+since-reached h same = h
+since-reached h (then q mine c apart) = next (since-reached h q) c
+
+pub since-stays : {r : ℕ} {s t : State} → Reached s → r < recordCount → Since r s t → Same (recordAt (s .records) r) (recordAt (t .records) r)
+since-stays h l same = same-whole _ _ refl
+since-stays {r} {s} h l (then {t} q mine c apart) =
+    same-on (recordAt (s .records) r) (recordAt (t .records) r) (recordAt (after t c .records) r) (since-stays h l q)
+    (record-stays (since-reached h q) c r l mine apart)

@@ -28,7 +28,7 @@ use Rattle.finished.specs.declared.Finished.{Finished}
 use Rattle.finished.specs.declared.Finished.the-variants as place
 use Rattle.records.specs.Records.{inFlight, recordedWord, wordAt, recordAt, setWord}
 use Rattle.records.specs.declared.Record.{Record}
-use Rattle.records.proofs.RecordLaws.{id-is, word-set}
+use Rattle.records.proofs.RecordLaws.{id-is, word-set, word-kept}
 use Rattle.dock.specs.declared.Endpoint.{Endpoint}
 use Rattle.dock.specs.declared.ReclaimedOne.{ReclaimedOne}
 use Rattle.dock.specs.Numbers.{Numbered, reclaimedNumber}
@@ -152,6 +152,14 @@ module _ (e : Endpoint) (finished records packets : List ℕ) (id r : ℕ) (h : 
         ≡ (afterStage (stageBy seen e v r) (statusBy (finishedAt finished (statusPlace e v)) e v r recorded), setWord records r recordedWord recorded, packets)
     unfolding reclaimFlying reclaimControl
     is-control = flies-here ∙ rw (eq-eqb (v .kind) control kind, passes-on (finishedAt finished (v .place)) e v r setup)
+
+    -- The record keeps its kind and length.
+    pub kind-kept : (recordAt (result .1) r .kind ≡ v .kind) × (recordAt (result .1) r .length ≡ v .length)
+    unfolding recordAt
+    kind-kept = (
+      ap (λ (x : ReclaimedOne × List ℕ × List ℕ). wordAt (x .1) r 1) is-control ∙ word-kept records r recordedWord recorded r 1 (λ q. omega arith),
+      ap (λ (x : ReclaimedOne × List ℕ × List ℕ). wordAt (x .1) r 6) is-control ∙ word-kept records r recordedWord recorded r 6 (λ q. omega arith),
+    )
 
     -- An event in the data's place is looked at where the request has a length.
     data-seen : (d : Words) → 0 < v .length → finishedAt finished (dataPlace e v) ≡ place.Event d → seen ≡ place.Event d
