@@ -77,9 +77,9 @@ same-words records r after stays = record {
 
 -- ---- the calls
 
-marked-stays : (records : List ℕ) (f : Lookup) (r : ℕ) → Stays records r (marked records f)
-marked-stays records Nothing r k l a b = refl
-marked-stays records (At q) r k l a b = word-kept records q cancelledWord 1 r k (λ e. b (omega arith))
+mark-stays : (records : List ℕ) (f : Lookup) (r : ℕ) → Stays records r (marked records f)
+mark-stays records Nothing r k l a b = refl
+mark-stays records (At q) r k l a b = word-kept records q cancelledWord 1 r k (λ e. b (omega arith))
 
 retired-stays : (n : ℕ) (occupancy : Occupancy) (outstanding : ℕ) (records : List ℕ) (r : ℕ) → Stays records r (retiredBelow n occupancy outstanding records .1)
 unfolding retiredBelow
@@ -99,7 +99,7 @@ module _ (s : State) (r : ℕ) where
   cancel-stays id =
       let f = findIn (s .records) (s .endpoint .account .occupancy) id in
       picked (λ (a : Outcome × List ℕ). Same v (recordAt (a .1) r)) (eqb (cancelNo (s .endpoint) (s .records) id) 0) _ _
-      (λ t. same-words (s .records) r (marked (s .records) f) (marked-stays (s .records) f r)) (λ t. same-whole v v refl)
+      (λ t. same-words (s .records) r (marked (s .records) f) (mark-stays (s .records) f r)) (λ t. same-whole v v refl)
 
   retire-stays : Same v (recordAt (after s retires .records) r)
   unfolding retire

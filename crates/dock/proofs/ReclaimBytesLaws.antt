@@ -1,5 +1,5 @@
 -- The bytes that a reclaim tells of a request that is done, by its id: for bulk and interrupt the length asked for less what remains, for control what
--- the data's event tells, now or at an earlier reclaim, or the length asked for where no data event came; with an event that the standard lets a
+-- the data's event tells, in this reclaim or an earlier one, or the length asked for where no data event came; with an event that the standard lets a
 -- controller write for n bytes moved, exactly n. Assumes nothing.
 use Prim.Native.Nat.{ℕ, _+_, _-_, _%_, _^_, _<_, _≤_}
 use mathlib.Core.Bool.{true, false, not, _&&_}
@@ -42,7 +42,7 @@ use Rattle.dock.proofs.RetireLaws.{picked}
 use Rattle.dock.proofs.ReclaimAnswerLaws.{done-last}
 use Rattle.dock.proofs.ReclaimResidualLaws.{moved-residual, data-moved}
 
--- "Done is id, length, yes": the answer with which a request of this record is done, of so many bytes.
+-- The answer with which a request of this record is done, of so many bytes: id, length, yes.
 abbrev pub doneWith : Record → ℕ → ℕ → Numbered
 doneWith v id n = (0, id ∷ n ∷ flag (ltb 0 n && v .incoming) ∷ [])
 
