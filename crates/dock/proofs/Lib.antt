@@ -1,11 +1,15 @@
 -- The laws of the definitions, the states that are reached from making, and the readings from the bench.
 pub mod Reached
 pub mod ReachedBookLaws
+pub mod ReachedBytesLaws
 pub mod ReachedFitLaws
+pub mod ReachedLengthLaws
 pub mod ReachedPacketLaws
+pub mod ReachedRecordLaws
 pub mod ReachedSoundLaws
 pub mod Readings
 pub mod ReclaimAnswerLaws
+pub mod ReclaimBytesLaws
 pub mod ReclaimCountLaws
 pub mod ReclaimCreditLaws
 pub mod ReclaimLaws
@@ -28,4 +32,5 @@ pub mod StoreNextLaws
 pub mod StoreStepLaws
 pub mod SubmitEndLaws
 pub mod SubmitLaws
+pub mod SubmitNumberLaws
 pub mod TdLaws

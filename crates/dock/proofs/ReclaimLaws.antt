@@ -97,7 +97,7 @@ module _ (e : Endpoint) (v : Record) (number : ℕ) where
       let s = sweep (e .shape .slots) finished v number (v .count) 0 packets in
       swept-by (s .0) (s .1)
 
--- ---- the records: only its own, and no id, state, count or place
+-- ---- the records: only its own, and of that only what is recorded
 
 -- What is recorded of a data event stands one above a length that is at most the one asked for; 0 is nothing.
 abbrev pub Measured : Record → Type 0
@@ -105,16 +105,17 @@ Measured v = v .recorded ≤ v .length + 1
 
 -- So is what a look at the data event records.
 pub recorded-by : (f : Finished) (v : Record) → Measured v → recordedBy f v ≤ v .length + 1
-recorded-by place.Nothing v m = m
+recorded-by place.Nothing v m = omega arith
 recorded-by (place.Event w) v m = omega arith
 
 pub record OwnRecord (number : ℕ) (records after : List ℕ) : Type 0 where
   pub alike : Alike records after
   pub others : (q k : ℕ) → (q ≡ number → ⊥) → k < recordWords → wordAt after q k ≡ wordAt records q k
+  pub own : (k : ℕ) → k < recordWords → (k ≡ recordedWord → ⊥) → wordAt after number k ≡ wordAt records number k
   pub measured : Measured (recordAt records number) → Measured (recordAt after number)
 
 pub own-record-same : (number : ℕ) (records : List ℕ) → OwnRecord number records records
-own-record-same number records = record { alike = alike-same records; others = λ q k d l. refl; measured = λ m. m }
+own-record-same number records = record { alike = alike-same records; others = λ q k d l. refl; own = λ k l d. refl; measured = λ m. m }
 
 module _ (number : ℕ) (records : List ℕ) (within : number < recordCount) (long : length records ≡ recordsSize) where
   set-measured : (recorded : ℕ) → recorded ≤ recordAt records number .length + 1 → Measured (recordAt (setWord records number recordedWord recorded) number)
@@ -131,6 +132,7 @@ module _ (number : ℕ) (records : List ℕ) (within : number < recordCount) (lo
   records-by onward recorded new = record {
     alike = alike-set records number recordedWord recorded (omega arith) (λ e. omega arith) (λ e. omega arith) (λ e. omega arith) (λ e. omega arith);
     others = λ q k d l. word-kept records number recordedWord recorded q k (λ e. d (omega arith));
+    own = λ k l d. word-kept records number recordedWord recorded number k (λ e. d (omega arith));
     measured = λ m. set-measured recorded (new m);
   }
   records-by (ends r) recorded new = own-record-same number records
