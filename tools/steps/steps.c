@@ -36,6 +36,7 @@
 
 #define BASE 0x10000u /* document 01's W10 has it */
 #define MARK 0x6d61726bu
+#define SHIPPED (-1)
 #define STATE(d) (d)->state, THN_STATE_WORDS
 #define ANSWER(d) (d)->answer, THN_ANSWER_WORDS
 #define SLOTS(d) (d)->ring, 4 * (d)->slots, (d)->finished, 4 * (d)->slots
@@ -45,7 +46,7 @@
 static struct shared {
     struct dock d;
     struct request r;
-    int slip; /* -1: thn_submit */
+    int slip; /* or SHIPPED: thn_submit */
     volatile int over;
     uint32_t no;
 } *shared;
@@ -139,15 +140,15 @@ static void serve(void) {
         _exit(9);
     for (;;) {
         raise(SIGSTOP); /* the tables are laid out */
-        if (shared->slip >= 0)
+        if (shared->slip != SHIPPED)
             plan(shared->slip, d, &shared->r);
         raise(SIGSTOP); /* from here on each instruction is watched */
-        if (shared->slip >= 0)
+        if (shared->slip != SHIPPED)
             act(d);
         else
             shared->no = thn_submit(STATE(d), ANSWER(d), SLOTS(d), REQUESTS(d), ASKED(&shared->r));
         shared->over = 1;
-        if (shared->slip >= 0)
+        if (shared->slip != SHIPPED)
             settle(d);
     }
 }
@@ -180,7 +181,7 @@ static struct store trbs[MOST_STORES]; /* what it is to take: the slot, and in `
 static size_t trb_count;
 
 static void run_on(const struct dock *d, long step) {
-    for (size_t n = 0; n < 2 * d->slots; n++) {
+    for (size_t n = 0; n < 2 * d->slots && controller.slot < d->slots; n++) {
         const uint32_t *w = &d->ring[4 * controller.slot];
         if ((w[3] & 1) != controller.cycle)
             return;
@@ -250,10 +251,10 @@ static int out_of_turn(int marked) {
         for (unsigned w = 0; w < 4; w++)
             words |= (marked || list[k].before[w] != list[k].after[w]) << w;
         for (; words || place; c++) {
-            struct change *x = &changes[c];
-            unsigned *due = c < change_count && x->finished ? &place : &words, w = x->index % 4;
-            if (c == change_count || x->index / 4 != list[k].slot || !(*due >> w & 1) || x->new != (x->finished ? 0 : list[k].after[w]) || x->step <= before)
-                return fails(words && !(c < change_count && x->finished) ? 1 : 4, "a change that is not of the store that is due", list[k].slot);
+            const struct change *x = c < change_count ? &changes[c] : NULL;
+            unsigned *due = x && x->finished ? &place : &words, w = x ? x->index % 4 : 0;
+            if (!x || x->index / 4 != list[k].slot || !(*due >> w & 1) || x->new != (x->finished ? 0 : list[k].after[w]) || x->step <= before)
+                return fails((x && x->finished) || !words ? 4 : 1, "the next change is not of the store that is due", list[k].slot);
             *due &= ~(1u << w);
             first[x->finished] = first[x->finished] ? first[x->finished] : x->step;
             last[x->finished] = x->step;
@@ -406,7 +407,7 @@ static void at_place(size_t slots, size_t place, int cycle) {
     for (size_t i = 0; i < KINDS; i++)
         for (int marked = 0; marked < 2 && ask(&r, &kinds[i], slots); marked++) {
             size_t link = 0;
-            if (try(&d, place, cycle, &r, -1, marked) | (shared->no != kinds[i].no))
+            if (try(&d, place, cycle, &r, SHIPPED, marked) | (shared->no != kinds[i].no))
                 complain(kinds[i].name, slots, place, cycle, marked);
             for (size_t k = 0; k < store_count; k++)
                 link = list[k].slot == slots - 1 ? k : link;
@@ -415,13 +416,13 @@ static void at_place(size_t slots, size_t place, int cycle) {
 }
 
 /* What the instructions of one submission change, a line for each that changes a word. */
-static void show(const char *title, size_t kind, size_t slots, size_t place, int cycle) {
+static void show(size_t kind, size_t slots, size_t place, int cycle, const char *where) {
     static struct dock d;
     struct request r;
     walk(&d, slots, place, cycle);
     ask(&r, &kinds[kind], slots);
-    try(&d, place, cycle, &r, -1, 0);
-    printf("%s\n", title);
+    try(&d, place, cycle, &r, SHIPPED, 0);
+    printf("%s; L %zu, place %zu, cycle %d: %s\n", kinds[kind].name, slots, place, cycle, where);
     for (size_t c = 0, n = 1; c < change_count; n++) {
         long step = changes[c].step;
         printf("  %zu  %-8s %2zu ", n, changes[c].finished ? "finished" : "ring", changes[c].index / 4);
@@ -432,14 +433,29 @@ static void show(const char *title, size_t kind, size_t slots, size_t place, int
     printf("\n");
 }
 
+/* W10 as document 01 has it: the slots in order, and their w3. */
+static int is_w10(void) {
+    static const uint32_t w10[][2] = {{3, 0x00030840}, {4, 0x00001803}, {0, 0x00010c04}, {1, 0x00001020}, {3, 0x00030841}};
+    size_t k = 0;
+    for (size_t c = 0; c < change_count; c++)
+        if (!changes[c].finished && changes[c].index % 4 == 3) {
+            if (k == 5 || changes[c].index / 4 != w10[k][0] || changes[c].new != w10[k][1])
+                return 0;
+            k++;
+        }
+    return k == 5;
+}
+
 static int archive(void) {
     static const size_t further[][2] = {{64, 0}, {64, 40}, {64, 61}, {64, 62}, {4096, 4093}, {4096, 4094}};
-    show("Control in with data, L 5, place 3, cycle 1 (document 01's W10): the link between setup and data", 0, 5, 3, 1);
-    show("Control in with data, L 5, place 2, cycle 0: the link between data and status", 0, 5, 2, 0);
-    show("Control in with data, L 5, place 1, cycle 1: the link behind the status", 0, 5, 1, 1);
-    show("ISO in, 3 packets, L 5, place 2, cycle 0: the link between the second packet and the third", 9, 5, 2, 0);
-    show("Bulk in, L 5, place 3, cycle 1: the link behind it", 4, 5, 3, 1);
-    show("Bulk in, L 5, place 1, cycle 0: no link", 4, 5, 1, 0);
+    show(0, 5, 3, 1, "the link between setup and data (document 01's W10)");
+    if (!is_w10())
+        die("this is not document 01's W10");
+    show(0, 5, 2, 0, "the link between data and status");
+    show(0, 5, 1, 1, "the link behind the status");
+    show(9, 5, 2, 0, "the link between the second packet and the third");
+    show(4, 5, 3, 1, "the link behind the TRB");
+    show(4, 5, 1, 0, "no link");
     memset(&told, 0, sizeof told);
     memset(broken, 0, sizeof broken);
     for (int cycle = 1; cycle >= 0; cycle--) {
@@ -456,7 +472,8 @@ static int archive(void) {
     printf("\nrule 1  %ld stores, each in its turn: broken %ld\n", told.stores, broken[1]);
     printf("told 2  the four words of a store: by one instruction %ld, w3 last %ld, another behind w3 %ld\n", told.at_once, told.w3_last, told.w3_not_last);
     printf("rule 3  %ld links behind their TRBs, %ld first TRBs published last: broken %ld\n", told.links, told.deferred, broken[3]);
-    printf("rule 4  places cleared before their TRB's words %ld, behind them %ld, among them %ld: broken %ld\n", told.ahead, told.behind, told.among, broken[4]);
+    printf("rule 4  places cleared before their TRB's words %ld, behind them %ld, among them %ld: broken %ld\n", told.ahead, told.behind, told.among,
+           broken[4]);
     printf("rule 5  %ld ends as those of the stores one by one: broken %ld\n", told.submissions, broken[5]);
     printf("rule 6  %ld TRBs taken by the controller, in parts %ld: broken %ld\n", told.taken, told.in_parts, broken[6]);
     printf("%ld submissions, %ld stores, %ld out of order\n", told.submissions, told.stores, told.out_of_order);
