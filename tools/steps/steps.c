@@ -449,8 +449,7 @@ static int is_w10(void) {
 static int archive(void) {
     static const size_t further[][2] = {{64, 0}, {64, 40}, {64, 61}, {64, 62}, {4096, 4093}, {4096, 4094}};
     show(0, 5, 3, 1, "the link between setup and data (document 01's W10)");
-    if (!is_w10())
-        die("this is not document 01's W10");
+    int w10 = is_w10();
     show(0, 5, 2, 0, "the link between data and status");
     show(0, 5, 1, 1, "the link behind the status");
     show(9, 5, 2, 0, "the link between the second packet and the third");
@@ -458,6 +457,9 @@ static int archive(void) {
     show(4, 5, 1, 0, "no link");
     memset(&told, 0, sizeof told);
     memset(broken, 0, sizeof broken);
+    snprintf(why, sizeof why, "the stores are not those that the document has");
+    if (!w10)
+        complain("document 01's W10", 5, 3, 1, 0);
     for (int cycle = 1; cycle >= 0; cycle--) {
         for (size_t slots = 3; slots <= 8; slots++)
             for (size_t place = 0; place + 1 < slots; place++)
@@ -524,6 +526,7 @@ int main(int argc, char **argv) {
     if (ptrace(PTRACE_SETOPTIONS, child, 0, PTRACE_O_EXITKILL) != 0)
         die("this machine does not allow ptrace");
     int bad = argc > 1 && strcmp(argv[1], "planted") == 0 ? planted() : archive();
+    fflush(stdout);
     fprintf(stderr, "steps: %ld instructions watched\n", instructions);
     return bad;
 }
