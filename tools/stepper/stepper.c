@@ -1,8 +1,8 @@
-/* steps.c: single-steps thn_submit of the shipped archive, and holds the order in which the words of the ring and of the finished table change against
+/* stepper.c: single-steps thn_submit of the shipped archive, and holds the order in which the words of the ring and of the finished table change against
  * the same submission store by store.
  *
- *     steps             every case below, on thn_submit
- *     steps planted     submissions with a slip (planted.c): each must be found
+ *     stepper           every case below, on thn_submit
+ *     stepper planted   submissions with a slip (planted.c): each must be found
  *
  * The contract of a whole submission says which words stand there at its end, not in which order they came. That order is run here: a child process
  * makes the call, its tables lie in memory that both processes share, and behind every instruction of the child (ptrace, PTRACE_SINGLESTEP) the tables
@@ -23,7 +23,7 @@
  *   6  a controller that goes as far as it can behind every instruction takes the TRBs in order, and none of a control TD before its last change
  */
 #define _GNU_SOURCE
-#include "steps.h"
+#include "stepper.h"
 #include <sched.h>
 #include <signal.h>
 #include <stdio.h>
@@ -70,7 +70,7 @@ static long broken[7], instructions;
 static char why[160];
 
 static void die(const char *what) {
-    fprintf(stderr, "steps: %s\n", what);
+    fprintf(stderr, "stepper: %s\n", what);
     if (child > 0)
         kill(child, SIGKILL);
     exit(2);
@@ -527,6 +527,6 @@ int main(int argc, char **argv) {
         die("this machine does not allow ptrace");
     int bad = argc > 1 && strcmp(argv[1], "planted") == 0 ? planted() : archive();
     fflush(stdout);
-    fprintf(stderr, "steps: %ld instructions watched\n", instructions);
+    fprintf(stderr, "stepper: %ld instructions watched\n", instructions);
     return bad;
 }

@@ -1,7 +1,7 @@
-/* planted.c: submissions that make the right stores in a wrong order, or others beside them, to show that steps.c finds each. All but the last two
+/* planted.c: submissions that make the right stores in a wrong order, or others beside them, to show that stepper.c finds each. All but the last two
  * leave every word as the right submission does: what is wrong is there only for a while.
  */
-#include "steps.h"
+#include "stepper.h"
 #include <string.h>
 
 enum { NONE, LINK_FIRST, FIRST_PUBLISHED, PUBLISHED_EARLY, SWAPPED, WORD_LATE, SLOT_TOUCHED, THIRD_VALUE, LINK_TOGGLED, PLACE_TOUCHED, CLEARED_LATE,

@@ -1,6 +1,6 @@
-/* What the watcher (steps.c) and the planted slips (planted.c) share. */
-#ifndef STEPS_H
-#define STEPS_H
+/* What the watcher (stepper.c) and the planted slips (planted.c) share. */
+#ifndef STEPPER_H
+#define STEPPER_H
 
 #include "thnaolups.h"
 
