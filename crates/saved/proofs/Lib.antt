@@ -1,2 +1,3 @@
 -- The laws of what crosses.
 pub mod LeavesLaws
+pub mod NarrowLaws
