@@ -83,11 +83,11 @@ kept-says number w e left = by (moves number) left
     by true same = load-save e
     by false same = sym (same refl)
 
--- and they are an endpoint's, where the endpoint afterwards is narrow.
-pub kept-state : (number : ℕ) (w : List ℕ) (e : Endpoint) → isState w ≡ true → Narrow e → isState (kept number w e) ≡ true
+-- and they are an endpoint's, where the endpoint afterwards is narrow, and those that the answer leaves are an endpoint's.
+pub kept-state : (number : ℕ) (w : List ℕ) (e : Endpoint) → Narrow e → (moves number ≡ false → isState w ≡ true) → isState (kept number w e) ≡ true
 unfolding kept
-kept-state number w e t n = by (moves number)
+kept-state number w e n left = by (moves number) left
   where
-    by : (b : Bool) → isState (pick b (save e) w) ≡ true
-    by true = save-state e n
-    by false = t
+    by : (b : Bool) → (b ≡ false → isState w ≡ true) → isState (pick b (save e) w) ≡ true
+    by true before = save-state e n
+    by false before = before refl
