@@ -38,5 +38,9 @@ pub fn settle_told(state: &mut [u64], answer: &mut [u64], t: Told, e: Endpoint) 
 pub fn unmade(shape: Shape, who: Identity) -> u32
     ensures { λ r. ⌜ r ≡ unmade shape who ⌝ }
 {
-    if limits::limits_hold(shape, who) { 1 } else { 13 }
+    if limits::limits_hold(shape, who) {
+        1
+    } else {
+        13
+    }
 }
