@@ -296,7 +296,11 @@ fn request_words_that_are_too_wide() {
                     lent.request[0] = kind;
                     lent.lengths = vec![64];
                     lent.request[at] = wide;
-                    assert_eq!(call(number, &mut lent), 0, "call {number}, kind {kind}, request word {at} is {wide:x}");
+                    assert_eq!(
+                        call(number, &mut lent),
+                        0,
+                        "call {number}, kind {kind}, request word {at} is {wide:x}"
+                    );
                 }
             }
         }

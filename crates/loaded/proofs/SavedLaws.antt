@@ -84,7 +84,8 @@ kept-says number w e left = by (moves number) left
     by false same = sym (same refl)
 
 -- and they are an endpoint's, where the endpoint afterwards is narrow, and those that the answer leaves are an endpoint's.
-pub kept-state : (number : ℕ) (w : List ℕ) (e : Endpoint) → Narrow e → (moves number ≡ false → isState w ≡ true) → isState (kept number w e) ≡ true
+pub kept-state : (number : ℕ) (w : List ℕ) (e : Endpoint) → Narrow e → (moves number ≡ false → isState w ≡ true)
+    → isState (kept number w e) ≡ true
 unfolding kept
 kept-state number w e n left = by (moves number) left
   where

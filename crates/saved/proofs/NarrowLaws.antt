@@ -4,7 +4,7 @@ use Prim.Native.Nat.{ℕ, _<_, _^_}
 use mathlib.Core.Bool.{Bool, true, false}
 use mathlib.Core.List.{List, []}
 use mathlib.Core.Logic.{⊎-elim}
-use mathlib.Core.Path.{_≡_, refl, sym, ap, _∙_}
+use mathlib.Core.Path.{_≡_, refl}
 use native.Mathlib.Omega.{arith}
 use borrow.Author.Tests.{not-false}
 use lib.Dec.{eqb}
@@ -13,15 +13,10 @@ use Rattle.base.proofs.Chosen.{quiet}
 use Rattle.base.proofs.Compare.{same-or-not}
 use Rattle.sizes.specs.Sizes.{isoch}
 use Rattle.records.specs.declared.Record.{Record}
-use Rattle.dock.specs.declared.Changed.{Changed}
 use Rattle.dock.specs.declared.Endpoint.{Endpoint}
 use Rattle.dock.specs.declared.Identity.{Identity}
-use Rattle.dock.specs.declared.Periodic.{Periodic}
-use Rattle.dock.specs.declared.ReclaimedOne.{ReclaimedOne}
 use Rattle.dock.specs.declared.Request.{Request}
-use Rattle.dock.specs.declared.ResetBegun.{ResetBegun}
 use Rattle.dock.specs.declared.Shape.{Shape}
-use Rattle.dock.specs.declared.StoredOne.{StoredOne}
 use Rattle.dock.specs.Configure.{plainNo, configure}
 use Rattle.dock.specs.Limits.{limitsHold}
 use Rattle.dock.specs.Make.{makeTests, makeNo, make}
@@ -36,7 +31,6 @@ use Rattle.dock.specs.State.{idle, withStore}
 use Rattle.dock.specs.Submit.{submit}
 use Rattle.dock.specs.Trbs.{frameAfter}
 use Rattle.dock.proofs.ReachedSoundLaws.{Untouched, Looked, reclaim-result}
-use Rattle.dock.proofs.ReclaimLaws.{Left}
 use Rattle.dock.proofs.RefusalLaws.{make-acts, configure-acts, configure-refuses, start-acts, start-refuses, store-acts, store-refuses, retire-acts, retire-refuses, begin-refuses, begin-clear, begin-acts, end-refuses, end-acts}
 use Rattle.dock.proofs.RefusalTestLaws.{by-limits}
 use Rattle.dock.proofs.RetireLaws.{picked}
