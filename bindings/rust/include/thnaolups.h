@@ -9,7 +9,8 @@
  *             counted, bit 63 its mark
  *
  * A request's words: kind (0 control, 1 bulk, 2 interrupt, 3 isochronous), direction (not 0: in; of a control request bit 7 of the type
- * says it), request type, request, value, index, address, length. The packet lengths of an isochronous request stand beside it.
+ * says it), request type, request, value, index (these four are read of a control request only), address, length. The packet lengths of an
+ * isochronous request stand beside it.
  * An answer's words: how many values it has, the values, then zeros. They are written anew by every call that is lent them.
  *
  * What is returned:
@@ -21,9 +22,11 @@
  *   5 buffer out of the controller's reach  12 a submission's stores are under way
  *   6 id not in flight                      13 outside the limits of a ring
  *
- * Any numbers are safe, and so are slices of any length: a length that does not fit is answered 1 and leaves everything. An answer but
- * 0, 7, 8 and 9 leaves the endpoint's words. What the caller owes is C's own: each pointer is valid for its length, aligned and not NULL (also
- * where the length is 0), and no slice that is written overlaps another one.
+ * Any numbers are safe, and so are slices of any length: a length that does not fit is answered 1 and leaves everything. So is a word that
+ * is too wide for its field; none is cut. The narrow ones are slot id, dci, burst and interval (8 bits), max packet size and next frame (16)
+ * of the endpoint, and type and request (8), value and index (16) of a control request. thn_make reads no word of the endpoint, and answers 13
+ * before 1. An answer but 0, 7, 8 and 9 leaves the endpoint's words. What the caller owes is C's own: each pointer is valid for its length,
+ * aligned and not NULL (also where the length is 0), and no slice that is written overlaps another one.
  */
 #ifndef THNAOLUPS_H
 #define THNAOLUPS_H
@@ -42,7 +45,8 @@ extern "C" {
 #define THN_RECORD_WORDS 12
 #define THN_PACKETS 64
 
-/* Makes a ring. Zeroes the ring and empties every table. 13: slots, base, slot id or dci outside the limits. */
+/* Makes a ring. Zeroes the ring and empties every table. 13: slots, base, slot id or dci outside the limits; then 1: a table or the
+ * endpoint's words of a wrong length. */
 uint32_t thn_make(
     uint64_t *state, size_t state_len, uint32_t *ring, size_t ring_len, uint32_t *finished,
     size_t finished_len, uint64_t *records, size_t records_len, uint64_t *packets,

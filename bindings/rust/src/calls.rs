@@ -3,13 +3,14 @@
 //! [`Ring`](crate::Ring) is the typed interface above them. These are for a driver that keeps an endpoint's words and tables by itself. Each
 //! returns document 01's number. An endpoint is [`STATE_WORDS`](crate::STATE_WORDS) words, a request
 //! [`REQUEST_WORDS`](crate::REQUEST_WORDS), an answer [`ANSWER_WORDS`](crate::ANSWER_WORDS): how many values it has, the values, then zeros.
+//! Words of a wrong length, and a word of an endpoint or of a request that is too wide for its field, are answered 1 and leave everything.
 use crate::raw;
 
 // SAFETY, of every call below: each slice is handed on as its pointer and its length, so it is valid for reads, and where it is `&mut` for
 // writes; two of them overlap only where neither is `&mut`. The function reads and writes within its slices alone, keeps no pointer, and its
 // contract asks nothing else: it is proved safe for all numbers and all lengths.
 
-/// Makes a ring: zeroes it, empties the tables, and writes a fresh endpoint into `state`. 13 outside the limits, 1 for a wrong size.
+/// Makes a ring: zeroes it, empties the tables, and writes a fresh endpoint into `state`. 13 outside the limits, then 1 for a wrong size.
 #[allow(clippy::too_many_arguments)]
 pub fn make(
     state: &mut [u64],

@@ -405,8 +405,8 @@ impl<'a> Ring<'a> {
         answered(number, 0, || Ring { state, tables })
     }
 
-    /// A ring from an endpoint's words and its tables, as [`Ring::into_parts`] gave them. Any words are safe; what no call has left is refused
-    /// by the calls.
+    /// A ring from an endpoint's words and its tables, as [`Ring::into_parts`] gave them. Any words are safe: where one is too wide for its field
+    /// or outside the limits, the calls answer 1.
     pub fn from_parts(state: [u64; STATE_WORDS], tables: Tables<'a>) -> Self {
         Ring { state, tables }
     }

@@ -1,4 +1,5 @@
-//! Slices of length 0 and of wrong lengths, and words that no save has left: every call answers, and a refusal leaves everything.
+//! Slices of length 0 and of wrong lengths, words too wide for their fields, and words that no save has left: every call answers, and a refusal
+//! leaves everything.
 use thnaolups::{calls, ANSWER_WORDS, PACKETS_SIZE, RECORDS_SIZE, REQUEST_WORDS, STATE_WORDS};
 
 const SLOTS: usize = 8;
@@ -220,13 +221,155 @@ fn a_request_of_no_kind() {
     assert_eq!(made().request.len(), REQUEST_WORDS);
 }
 
-/// Words too large for their fields are read modulo the width, a flag is set by any word but 0; a refusal leaves them, a yes saves them anew.
+/// The words of an endpoint that have a narrower field, and its bits: slot id, dci, max packet size, burst, interval, next frame.
+const NARROW_STATE: [(usize, u32); 6] = [(4, 8), (5, 8), (7, 16), (8, 8), (9, 8), (10, 16)];
+
+/// Those of a control request: type, request, value, index.
+const NARROW_REQUEST: [(usize, u32); 4] = [(2, 8), (3, 8), (4, 16), (5, 16)];
+
+/// A control request with data, its first bits set where they may be.
+fn control(word: u64) -> Vec<u64> {
+    let mut request = vec![0, 0, 0, 0, 0, 0, 0x2_0000, 64];
+    for (at, bits) in NARROW_REQUEST {
+        request[at] = word & ((1 << bits) - 1);
+    }
+    request
+}
+
+/// The least and the largest word that does not fit.
+fn too_wide(bits: u32) -> [u64; 2] {
+    [1 << bits, u64::MAX]
+}
+
+/// A state word that is too wide: 1 from every call but making, and everything as it was, the answer's words too. Making writes it anew.
+#[test]
+fn state_words_that_are_too_wide() {
+    let fresh = {
+        let mut lent = made();
+        assert_eq!(call(0, &mut lent), 0);
+        lent
+    };
+    for (at, bits) in NARROW_STATE {
+        for wide in too_wide(bits) {
+            for number in 1..CALLS {
+                let mut lent = made();
+                lent.state[at] = wide;
+                let before = lent.clone();
+                assert_eq!(call(number, &mut lent), 1, "call {number}, state word {at} is {wide:x}");
+                assert_eq!(before, lent, "call {number}, state word {at} is {wide:x}");
+            }
+            let mut lent = made();
+            lent.state[at] = wide;
+            assert_eq!(call(0, &mut lent), 0);
+            assert_eq!(lent, fresh);
+        }
+    }
+}
+
+/// The largest that fits is taken; of the dci that is 31, by its limit.
+#[test]
+fn state_words_that_just_fit() {
+    for (at, bits) in NARROW_STATE {
+        let mut lent = made();
+        lent.state[at] = if at == 5 { 31 } else { (1 << bits) - 1 };
+        let before = lent.clone();
+        assert_eq!(call(13, &mut lent), 0, "state word {at}");
+        assert!(same_but_answer(&before, &lent));
+        assert_eq!(call(7, &mut lent), 0, "state word {at}");
+    }
+}
+
+/// A word of a control request that is too wide: 1, and everything as it was. The other kinds have no setup, and their words are not read.
+#[test]
+fn request_words_that_are_too_wide() {
+    for (at, bits) in NARROW_REQUEST {
+        for wide in too_wide(bits) {
+            for number in [2, 4] {
+                let mut lent = made();
+                lent.request = control(u64::MAX);
+                lent.request[at] = wide;
+                let before = lent.clone();
+                assert_eq!(call(number, &mut lent), 1, "call {number}, request word {at} is {wide:x}");
+                assert_eq!(before, lent, "call {number}, request word {at} is {wide:x}");
+                for kind in [1, 2, 3] {
+                    let mut lent = made();
+                    lent.request[0] = kind;
+                    lent.lengths = vec![64];
+                    lent.request[at] = wide;
+                    assert_eq!(
+                        call(number, &mut lent),
+                        0,
+                        "call {number}, kind {kind}, request word {at} is {wide:x}"
+                    );
+                }
+            }
+        }
+    }
+}
+
+/// The largest that fit stand in the setup TRB.
+#[test]
+fn request_words_that_just_fit() {
+    let mut lent = made();
+    lent.request = control(u64::MAX);
+    assert_eq!(call(4, &mut lent), 0);
+    assert_eq!(lent.ring[8..10], [0xffff_ffff, 64 << 16 | 0xffff]);
+}
+
+/// A making outside the limits with words of a wrong length for the endpoint.
+#[test]
+fn making_knows_13_then_1() {
+    let good = made();
+    for length in [0, 1, STATE_WORDS - 1, STATE_WORDS + 1, 2 * STATE_WORDS] {
+        for (slots, base, slot, dci, answer) in [
+            (2, 0x1_0000, 1, 1, 13),
+            (4097, 0x1_0000, 1, 1, 13),
+            (5, 0x1_0800, 1, 1, 13),
+            (5, 0x1_0000, 0, 1, 13),
+            (5, 0x1_0000, 1, 0, 13),
+            (5, 0x1_0000, 1, 32, 13),
+            (5, 0x1_0000, 1, 1, 1),
+        ] {
+            let mut l = good.clone();
+            l.state.resize(length, 7);
+            l.ring.resize(4 * slots, 7);
+            l.finished.resize(4 * slots, 7);
+            let before = l.clone();
+            let no = calls::make(
+                &mut l.state,
+                &mut l.ring,
+                &mut l.finished,
+                &mut l.records,
+                &mut l.packets,
+                slots,
+                base,
+                u64::MAX,
+                slot,
+                dci,
+            );
+            assert_eq!(no, answer, "{length} words, {slots} slots at {base:x}, slot id {slot}, dci {dci}");
+            assert_eq!(before, l);
+        }
+    }
+}
+
+/// Words of zeros are no endpoint.
+#[test]
+fn no_ring_made() {
+    for number in 1..CALLS {
+        let mut lent = made();
+        lent.state.fill(0);
+        let before = lent.clone();
+        assert_eq!(call(number, &mut lent), 1, "call {number}");
+        assert!(same_but_answer(&before, &lent));
+    }
+}
+
+/// A flag is set by any word but 0; a refusal leaves it, a yes saves it anew.
 #[test]
 fn words_that_no_save_has_left() {
     let mut lent = made();
     let saved = lent.state.clone();
-    lent.state[4] += 256; // slot id
-    lent.state[7] += 1 << 20; // max packet
     lent.state[1] = 77; // cycle
     let forged = lent.clone();
     assert_eq!(call(10, &mut lent), 10);
@@ -235,7 +378,7 @@ fn words_that_no_save_has_left() {
     assert_eq!(lent.answer[..3], [2, 0x1_0020, 1]);
     assert_eq!(lent.state, forged.state, "a call that only reads leaves them too");
     assert_eq!(call(1, &mut lent), 0);
-    assert_eq!((lent.state[4], lent.state[1]), (saved[4], saved[1]));
+    assert_eq!(lent.state[1], saved[1]);
     assert_eq!(lent.state[7], 192);
 }
 

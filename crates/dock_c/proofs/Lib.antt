@@ -1,2 +1,3 @@
 -- The laws of the exported calls.
 pub mod SaysLaws
+pub mod StaysLaws

@@ -1,6 +1,6 @@
 -- Each exported call: the call of its name, on the endpoint that the words say. Its number is returned; the endpoint's words are those of the
--- endpoint afterwards where the answer changes it, else as they were; the answer's words are told anew. Words of a wrong length, and a request of
--- no kind, are answered 1 and leave everything.
+-- endpoint afterwards where the answer changes it, else as they were; the answer's words are told anew. Words of a wrong length or too wide for
+-- their fields, and a request of no kind, are answered 1 and leave everything; making asks the length only, and after its limits.
 use Prim.Native.Nat.{ℕ}
 use mathlib.Core.Bool.{Bool, _&&_}
 use mathlib.Core.List.{List}
@@ -22,15 +22,12 @@ use Rattle.dock.specs.Cancel.{cancel}
 use Rattle.dock.specs.Retire.{retire}
 use Rattle.dock.specs.Reset.{beginReset, endReset}
 use Rattle.dock.specs.Commands.{stop, resume, pointer}
-use Rattle.loaded.specs.State.{stateWords, load}
+use Rattle.loaded.specs.State.{stateWords, isState, load}
 use Rattle.told.specs.Request.{isRequest, requestOf}
 use Rattle.told.specs.Answer.{answerWords, toldOf, spoken, reclaimedTold}
-use Rattle.saved.specs.Settle.{numbered, told}
+use Rattle.saved.specs.Settle.{numbered, told, unmade}
 
--- The words have their lengths: of a call that tells its number only, and of one that has values to tell.
-abbrev pub isState : List ℕ → Bool
-isState state = eqb (length state) stateWords
-
+-- The words of a call that has values to tell: an endpoint's, and as many as an answer has.
 abbrev pub areWords : List ℕ → List ℕ → Bool
 areWords state answer = isState state && eqb (length answer) answerWords
 
@@ -48,7 +45,7 @@ unfoldable pub made : List ℕ → List ℕ → List ℕ → List ℕ → List �
 made state ring finished records packets shape who =
     let m = make ring finished records packets shape who in
     let n = numbered state (m .0) in
-    pick (isState state) (n .0, n .1, m .1, m .2, m .3, m .4) (1, state, ring, finished, records, packets)
+    pick (eqb (length state) stateWords) (n .0, n .1, m .1, m .2, m .3, m .4) (unmade shape who, state, ring, finished, records, packets)
 
 unfoldable pub configured : List ℕ → ℕ → ℕ → ℕ → ℕ × List ℕ
 configured state packet burst interval =

@@ -2,8 +2,9 @@
 //
 // A slice crosses as a pointer to its first element and its length. An endpoint is `STATE_WORDS` words that the caller keeps and lends to each call, a
 // request is eight words, and an answer is document 01's number, which is returned, and, for the calls that have values to tell, nine words
-// (crates `loaded` and `told` say which). Nothing is asked of the numbers: words of a wrong length and a request of no kind are answered 1, and any
-// other words are an endpoint or a request. A call that is refused leaves the endpoint's words as they are, even where a save would change them.
+// (crates `loaded` and `told` say which). Nothing is asked of the numbers: words of a wrong length, words that are too wide for their fields and a
+// request of no kind are answered 1, and any other words are an endpoint or a request. Making reads no word of the endpoint, and answers 13 before 1.
+// A call that is refused leaves the endpoint's words as they are, even where a save would change them.
 //
 // Each function loads the endpoint, makes the call of its name, saves the endpoint and tells the answer; specs/Exported.antt says so, once each.
 ghost use mathlib.Core.Path.{_≡_};
@@ -11,9 +12,11 @@ ghost use Rattle.dock_c.specs.Exported.{shapeGiven, identityGiven, made,
 use dock::Identity;
 use dock::Shape;
 use loaded::STATE_WORDS;
+use loaded::is_state;
 use loaded::load;
 use saved::settle::settle;
 use saved::settle::settle_told;
+use saved::settle::unmade;
 use told::answer;
 use told::answer::ANSWER_WORDS;
 use told::answer::tell;
@@ -38,11 +41,11 @@ pub extern "C" fn thn_make(
 ) -> u32
     ensures { λ r. ⌜ (r, now (state .exit), now (ring .exit), now (finished .exit), now (records .exit), now (packets .exit)) ≡ made (now (state .entry)) (now (ring .entry)) (now (finished .entry)) (now (records .entry)) (now (packets .entry)) (shapeGiven slots base) (identityGiven mask slot dci) ⌝ }
 {
-    if state.len() != STATE_WORDS {
-        return 1;
-    }
     let shape = Shape { slots, base };
     let who = Identity { slot, dci, mask };
+    if state.len() != STATE_WORDS {
+        return unmade(shape, who);
+    }
     let m = making::make::make(ring, finished, records, packets, shape, who);
     settle(state, m)
 }
@@ -51,7 +54,7 @@ pub extern "C" fn thn_make(
 pub extern "C" fn thn_configure(state: &mut [u64], packet: u16, burst: u8, interval: u8) -> u32
     ensures { λ r. ⌜ (r, now (state .exit)) ≡ configured (now (state .entry)) packet burst interval ⌝ }
 {
-    if state.len() != STATE_WORDS {
+    if !is_state(state) {
         return 1;
     }
     let c = making::configure::configure_periodic(load(state), packet, burst, interval);
@@ -68,7 +71,7 @@ pub extern "C" fn thn_start(
 ) -> u32
     ensures { λ r. ⌜ (r, now (state .exit), now (records .exit), now (packets .exit)) ≡ started (now (state .entry)) (now (records .entry)) (now (packets .entry)) (now (request .entry)) (now (lengths .entry)) ⌝ }
 {
-    if state.len() != STATE_WORDS {
+    if !is_state(state) {
         return 1;
     }
     if !is_request(request) {
@@ -95,7 +98,7 @@ pub extern "C" fn thn_store(
 ) -> u32
     ensures { λ r. ⌜ (r, now (state .exit), now (answer .exit), now (ring .exit), now (finished .exit)) ≡ storedOne (now (state .entry)) (now (answer .entry)) (now (ring .entry)) (now (finished .entry)) (now (records .entry)) (now (packets .entry)) ⌝ }
 {
-    if state.len() != STATE_WORDS {
+    if !is_state(state) {
         return 1;
     }
     if answer.len() != ANSWER_WORDS {
@@ -120,7 +123,7 @@ pub extern "C" fn thn_submit(
 ) -> u32
     ensures { λ r. ⌜ (r, now (state .exit), now (answer .exit), now (ring .exit), now (finished .exit), now (records .exit), now (packets .exit)) ≡ submitted (now (state .entry)) (now (answer .entry)) (now (ring .entry)) (now (finished .entry)) (now (records .entry)) (now (packets .entry)) (now (request .entry)) (now (lengths .entry)) ⌝ }
 {
-    if state.len() != STATE_WORDS {
+    if !is_state(state) {
         return 1;
     }
     if answer.len() != ANSWER_WORDS {
@@ -157,7 +160,7 @@ pub extern "C" fn thn_hand_over(
 ) -> u32
     ensures { λ r. ⌜ (r, now (answer .exit), now (finished .exit)) ≡ handedOver (now (state .entry)) (now (answer .entry)) (now (finished .entry)) w0 w1 w2 w3 ⌝ }
 {
-    if state.len() != STATE_WORDS {
+    if !is_state(state) {
         return 1;
     }
     if answer.len() != ANSWER_WORDS {
@@ -179,7 +182,7 @@ pub extern "C" fn thn_reclaim(
 ) -> u32
     ensures { λ r. ⌜ (r, now (state .exit), now (answer .exit), now (records .exit), now (packets .exit)) ≡ reclaimed (now (state .entry)) (now (answer .entry)) (now (finished .entry)) (now (records .entry)) (now (packets .entry)) id ⌝ }
 {
-    if state.len() != STATE_WORDS {
+    if !is_state(state) {
         return 1;
     }
     if answer.len() != ANSWER_WORDS {
@@ -195,7 +198,7 @@ pub extern "C" fn thn_reclaim(
 pub extern "C" fn thn_cancel(state: &[u64], records: &mut [u64], id: u64) -> u32
     ensures { λ r. ⌜ (r, now (records .exit)) ≡ cancelled (now (state .entry)) (now (records .entry)) id ⌝ }
 {
-    if state.len() != STATE_WORDS {
+    if !is_state(state) {
         return 1;
     }
     answer::outcome(completion::cancel_request(load(state), records, id))
@@ -207,7 +210,7 @@ pub extern "C" fn thn_cancel(state: &[u64], records: &mut [u64], id: u64) -> u32
 pub extern "C" fn thn_retire(state: &mut [u64], records: &mut [u64]) -> u32
     ensures { λ r. ⌜ (r, now (state .exit), now (records .exit)) ≡ retired (now (state .entry)) (now (records .entry)) ⌝ }
 {
-    if state.len() != STATE_WORDS {
+    if !is_state(state) {
         return 1;
     }
     let c = retiring::retire_all_after_stop(load(state), records);
@@ -218,7 +221,7 @@ pub extern "C" fn thn_retire(state: &mut [u64], records: &mut [u64]) -> u32
 pub extern "C" fn thn_begin_reset(state: &mut [u64], answer: &mut [u64], records: &[u64]) -> u32
     ensures { λ r. ⌜ (r, now (state .exit), now (answer .exit)) ≡ resetBegun (now (state .entry)) (now (answer .entry)) (now (records .entry)) ⌝ }
 {
-    if state.len() != STATE_WORDS {
+    if !is_state(state) {
         return 1;
     }
     if answer.len() != ANSWER_WORDS {
@@ -235,7 +238,7 @@ pub extern "C" fn thn_begin_reset(state: &mut [u64], answer: &mut [u64], records
 pub extern "C" fn thn_end_reset(state: &mut [u64], worked: u32) -> u32
     ensures { λ r. ⌜ (r, now (state .exit)) ≡ resetEnded (now (state .entry)) worked ⌝ }
 {
-    if state.len() != STATE_WORDS {
+    if !is_state(state) {
         return 1;
     }
     let c = resetting::end_reset(load(state), worked != 0);
@@ -246,7 +249,7 @@ pub extern "C" fn thn_end_reset(state: &mut [u64], worked: u32) -> u32
 pub extern "C" fn thn_stop(state: &[u64], answer: &mut [u64]) -> u32
     ensures { λ r. ⌜ (r, now (answer .exit)) ≡ stopped (now (state .entry)) (now (answer .entry)) ⌝ }
 {
-    if state.len() != STATE_WORDS {
+    if !is_state(state) {
         return 1;
     }
     if answer.len() != ANSWER_WORDS {
@@ -259,7 +262,7 @@ pub extern "C" fn thn_stop(state: &[u64], answer: &mut [u64]) -> u32
 pub extern "C" fn thn_resume(state: &[u64], answer: &mut [u64]) -> u32
     ensures { λ r. ⌜ (r, now (answer .exit)) ≡ resumed (now (state .entry)) (now (answer .entry)) ⌝ }
 {
-    if state.len() != STATE_WORDS {
+    if !is_state(state) {
         return 1;
     }
     if answer.len() != ANSWER_WORDS {
@@ -272,7 +275,7 @@ pub extern "C" fn thn_resume(state: &[u64], answer: &mut [u64]) -> u32
 pub extern "C" fn thn_pointer(state: &[u64], answer: &mut [u64]) -> u32
     ensures { λ r. ⌜ (r, now (answer .exit)) ≡ pointed (now (state .entry)) (now (answer .entry)) ⌝ }
 {
-    if state.len() != STATE_WORDS {
+    if !is_state(state) {
         return 1;
     }
     if answer.len() != ANSWER_WORDS {

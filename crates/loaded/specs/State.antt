@@ -1,11 +1,11 @@
--- The endpoint as words, one a field, in the order of its declaration. Any words are an endpoint: a field narrower than its word is the word
--- modulo its width, and a flag is set by any word but 0. Each part of an endpoint stands here twice, as its words and as what words say of it, from the
--- word on that follows the part before.
-use Prim.Native.Nat.{ℕ, _+_, _%_, _^_, _<_}
+-- The endpoint as words, one a field, in the order of its declaration. They are words of an endpoint where each fits its field; a flag is set by any
+-- word but 0. Each part of an endpoint stands here twice, as its words and as what words say of it, from the word on that follows the part before.
+use Prim.Native.Nat.{ℕ, _+_, _^_, _<_}
 use mathlib.Core.Bool.{Bool, _&&_, _||_}
 use mathlib.Core.List.{List, [], _∷_, _++_}
+use mathlib.Core.Path.{_≡_}
 use lib.Dec.{eqb, leb, ltb}
-use lib.ListN.{getD}
+use lib.ListN.{length, getD}
 use Rattle.base.specs.Fields.{flag}
 use Rattle.base.specs.First.{pick}
 use Rattle.ring.specs.declared.Position.{Position}
@@ -49,7 +49,7 @@ abbrev pub identityWords : Identity → List ℕ
 identityWords i = i .slot ∷ i .dci ∷ i .mask ∷ []
 
 abbrev pub identityAt : List ℕ → Identity
-identityAt w = record { slot = getD w identityFrom 0 % 2 ^ 8; dci = getD w (identityFrom + 1) 0 % 2 ^ 8; mask = getD w (identityFrom + 2) 0 }
+identityAt w = record { slot = getD w identityFrom 0; dci = getD w (identityFrom + 1) 0; mask = getD w (identityFrom + 2) 0 }
 
 -- ---- periodic
 
@@ -62,10 +62,10 @@ periodicWords p = p .packet ∷ p .burst ∷ p .interval ∷ p .frame ∷ []
 abbrev pub periodicAt : List ℕ → Periodic
 periodicAt w =
     record {
-      packet = getD w periodicFrom 0 % 2 ^ 16;
-      burst = getD w (periodicFrom + 1) 0 % 2 ^ 8;
-      interval = getD w (periodicFrom + 2) 0 % 2 ^ 8;
-      frame = getD w (periodicFrom + 3) 0 % 2 ^ 16;
+      packet = getD w periodicFrom 0;
+      burst = getD w (periodicFrom + 1) 0;
+      interval = getD w (periodicFrom + 2) 0;
+      frame = getD w (periodicFrom + 3) 0;
     }
 
 -- ---- account
@@ -143,6 +143,8 @@ save e =
     ++ flagsWords (e .flags)
     ++ workWords (e .work)
 
+-- ---- which words are an endpoint's
+
 -- The fields that are narrower than a word are so: true of every endpoint that a program holds.
 pub record Narrow (e : Endpoint) : Type 0 where
   pub slot : e .who .slot < 2 ^ 8
@@ -151,6 +153,32 @@ pub record Narrow (e : Endpoint) : Type 0 where
   pub burst : e .periodic .burst < 2 ^ 8
   pub interval : e .periodic .interval < 2 ^ 8
   pub frame : e .periodic .frame < 2 ^ 16
+
+-- The words of such fields fit them: slot id and dci one byte each,
+abbrev pub identityFits : List ℕ → Bool
+identityFits w = ltb (getD w identityFrom 0) (2 ^ 8) && ltb (getD w (identityFrom + 1) 0) (2 ^ 8)
+
+-- max packet size and next frame two, burst and interval one.
+abbrev pub periodicFits : List ℕ → Bool
+periodicFits w =
+    ltb (getD w periodicFrom 0) (2 ^ 16) && ltb (getD w (periodicFrom + 1) 0) (2 ^ 8)
+    && ltb (getD w (periodicFrom + 2) 0) (2 ^ 8) && ltb (getD w (periodicFrom + 3) 0) (2 ^ 16)
+
+-- As many words as an endpoint has, and each fits its field.
+unfoldable pub isState : List ℕ → Bool
+isState w = eqb (length w) stateWords && identityFits w && periodicFits w
+
+-- The same, as facts.
+pub record Fitting (w : List ℕ) : Type 0 where
+  pub size : length w ≡ stateWords
+  pub slot : getD w identityFrom 0 < 2 ^ 8
+  pub dci : getD w (identityFrom + 1) 0 < 2 ^ 8
+  pub packet : getD w periodicFrom 0 < 2 ^ 16
+  pub burst : getD w (periodicFrom + 1) 0 < 2 ^ 8
+  pub interval : getD w (periodicFrom + 2) 0 < 2 ^ 8
+  pub frame : getD w (periodicFrom + 3) 0 < 2 ^ 16
+
+-- ---- what a call leaves
 
 -- The answers that change the endpoint. Document 01, "When the dock says no": row 0, and rows 7, 8 and 9, which free a record.
 unfoldable pub moves : ℕ → Bool

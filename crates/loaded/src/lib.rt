@@ -1,10 +1,10 @@
-// An endpoint from its words, of 64 bits, one a field. Any words are an endpoint: a field narrower than its word is read modulo its width, and a flag
-// is set by any word but 0. specs/State.antt has the words, also as `saved` writes them.
+// An endpoint from its words, of 64 bits, one a field. Words are an endpoint's where each fits its field (`is_state`); a flag is set by any word but 0.
+// specs/State.antt has the words, also as `saved` writes them.
 //
 // The parts stand one behind the other, each from a word on: a part with more words moves those behind it, and nothing else.
 ghost use mathlib.Core.Path.{_≡_};
 ghost use lib.ListN.{length};
-ghost use Rattle.loaded.specs.State.{stateWords, load, positionAt, shapeAt, identityAt, periodicAt, accountAt, flagsAt, workAt};
+ghost use Rattle.loaded.specs.State.{stateWords, isState, Fitting, load, positionAt, shapeAt, identityAt, periodicAt, accountAt, flagsAt, workAt};
 use dock::Account;
 use dock::Endpoint;
 use dock::Flags;
@@ -54,25 +54,25 @@ fn shape(words: &[u64]) -> Shape
 }
 
 fn identity(words: &[u64]) -> Identity
-    requires { ⌜ length (now words) ≡ stateWords ⌝ }
+    requires { ⌜ Fitting (now words) ⌝ }
     ensures { λ r. ⌜ r ≡ identityAt (now (words .entry)) ⌝ }
 {
     Identity {
-        slot: (words[IDENTITY] % 0x100) as u8,
-        dci: (words[IDENTITY + 1] % 0x100) as u8,
+        slot: words[IDENTITY] as u8,
+        dci: words[IDENTITY + 1] as u8,
         mask: words[IDENTITY + 2],
     }
 }
 
 fn periodic(words: &[u64]) -> Periodic
-    requires { ⌜ length (now words) ≡ stateWords ⌝ }
+    requires { ⌜ Fitting (now words) ⌝ }
     ensures { λ r. ⌜ r ≡ periodicAt (now (words .entry)) ⌝ }
 {
     Periodic {
-        packet: (words[PERIODIC] % 0x1_0000) as u16,
-        burst: (words[PERIODIC + 1] % 0x100) as u8,
-        interval: (words[PERIODIC + 2] % 0x100) as u8,
-        frame: (words[PERIODIC + 3] % 0x1_0000) as u16,
+        packet: words[PERIODIC] as u16,
+        burst: words[PERIODIC + 1] as u8,
+        interval: words[PERIODIC + 2] as u8,
+        frame: words[PERIODIC + 3] as u16,
     }
 }
 
@@ -115,7 +115,7 @@ fn work(words: &[u64]) -> Work
 
 // The endpoint that the words say.
 pub fn load(words: &[u64]) -> Endpoint
-    requires { ⌜ length (now words) ≡ stateWords ⌝ }
+    requires { ⌜ Fitting (now words) ⌝ }
     ensures { λ e. ⌜ e ≡ load (now (words .entry)) ⌝ }
 {
     Endpoint {
@@ -127,4 +127,32 @@ pub fn load(words: &[u64]) -> Endpoint
         flags: flags(words),
         work: work(words),
     }
+}
+
+// Are they the words of an endpoint: as many as it has, and each fits its field?
+pub fn is_state(words: &[u64]) -> bool
+    ensures { λ r. ⌜ r ≡ isState (now (words .entry)) ⌝ }
+{
+    if words.len() != STATE_WORDS {
+        return false;
+    }
+    if words[IDENTITY] >= 0x100 {
+        return false;
+    }
+    if words[IDENTITY + 1] >= 0x100 {
+        return false;
+    }
+    if words[PERIODIC] >= 0x1_0000 {
+        return false;
+    }
+    if words[PERIODIC + 1] >= 0x100 {
+        return false;
+    }
+    if words[PERIODIC + 2] >= 0x100 {
+        return false;
+    }
+    if words[PERIODIC + 3] >= 0x1_0000 {
+        return false;
+    }
+    true
 }

@@ -69,7 +69,7 @@ pub make-moves : (ring finished records packets : List ℕ) (shape : Shape) (who
 make-moves ring finished records packets shape who z =
     moved 0 zero-moves (ap (λ x. outcomeNumber (x .0 .answer) .0) (make-acts ring finished records packets shape who z))
 
-off-or-on : (b : Bool) → (b ≡ false) ⊎ (b ≡ true)
+pub off-or-on : (b : Bool) → (b ≡ false) ⊎ (b ≡ true)
 off-or-on true = inr refl
 off-or-on false = inl refl
 

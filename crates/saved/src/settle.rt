@@ -3,10 +3,12 @@ ghost use mathlib.Core.Path.{_≡_};
 ghost use lib.ListN.{length};
 ghost use Rattle.loaded.specs.State.{stateWords};
 ghost use Rattle.told.specs.Answer.{answerWords};
-ghost use Rattle.saved.specs.Settle.{numbered, told};
+ghost use Rattle.saved.specs.Settle.{numbered, told, unmade};
 use crate::state::keep;
 use dock::Changed;
 use dock::Endpoint;
+use dock::Identity;
+use dock::Shape;
 use told::answer::Told;
 use told::answer::outcome;
 use told::answer::tell;
@@ -30,4 +32,15 @@ pub fn settle_told(state: &mut [u64], answer: &mut [u64], t: Told, e: Endpoint) 
 {
     keep(state, t.number, e);
     tell(answer, t)
+}
+
+// Of a making that is lent a wrong number of words for the endpoint: "Making knows only 13, then 1."
+pub fn unmade(shape: Shape, who: Identity) -> u32
+    ensures { λ r. ⌜ r ≡ unmade shape who ⌝ }
+{
+    if limits::limits_hold(shape, who) {
+        1
+    } else {
+        13
+    }
 }

@@ -147,7 +147,7 @@ pub fn keep(words: &mut [u64], number: u32, e: Endpoint)
     }
 }
 
-// The types of an endpoint's fields keep them as narrow as their words are read.
+// The types of an endpoint's fields keep them as narrow as their words must be.
 fn narrow(e: Endpoint)
     ensures { λ _. ⌜ Narrow e ⌝ }
 {}

@@ -1,4 +1,4 @@
 // What crosses to C beside the endpoint: an answer is document 01's number, and its values in nine words, how many there are, then the values, then
-// zeros; a request is eight words, any of which are read modulo their width.
+// zeros; a request is eight words, each of which fits its field.
 pub mod answer;
 pub mod request;

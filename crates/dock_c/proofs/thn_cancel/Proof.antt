@@ -1,5 +1,6 @@
--- `thn_cancel` meets its contract: the lengths, the call of its name on the loaded endpoint, and what it leaves. Assumes nothing.
-use borrow.Author.Tests.{eq-eqb, ne-eqb}
+-- `thn_cancel` meets its contract: the test of the words, the call of its name on the loaded endpoint, and what it leaves. Assumes nothing.
+use Rattle.base.proofs.Decide.{passed, failed}
+use Rattle.loaded.proofs.SavedLaws.{by-state}
 use Rattle.dock_c.specs.Exported.{cancelled}
 use borrow.Author.Needs.{needs}
 use Rattle.dock_c.proofs.thn_cancel.Statement.{statement}
@@ -8,7 +9,11 @@ use Rattle.dock_c.proofs.thn_cancel.Tie as tie
 returns : tie.Need-returns
 unfolding cancelled
 returns c =
-    simp (ne-eqb _ _ (c .if1 .taken))
+    simp (failed (c .before .is-state .ensures) (c .if1 .taken))
+
+load-requires : tie.Need-load-requires
+load-requires c κs =
+    by-state _ .so (passed (c .before .is-state .ensures) (c .if1 .left))
 
 returns-2 : tie.Need-returns-2
 unfolding cancelled
@@ -17,7 +22,7 @@ returns-2 c =
     let at-load = at-cancel-request .before .before in
     let at-if1 = at-load .before in
     simp (
-      eq-eqb _ _ (at-if1 .if1 .left),
+      passed (at-if1 .before .is-state .ensures) (at-if1 .if1 .left),
       ← at-load .load .ensures,
       ← at-cancel-request .cancel-request .ensures,
       ← c .outcome .ensures,
@@ -26,4 +31,11 @@ returns-2 c =
 pub thn-cancel-spec : {M : Type 1} → statement M
 thn-cancel-spec =
     tie.close
-    (tie.spec returns (λ c κs. search needs) (λ c κs. search needs) (λ c κs. search needs) (λ c. search needs) returns-2)
+    (tie.spec
+    (λ c κs. search needs)
+    returns
+    load-requires
+    (λ c κs. search needs)
+    (λ c κs. search needs)
+    (λ c. search needs)
+    returns-2)

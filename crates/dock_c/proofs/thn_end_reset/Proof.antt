@@ -1,5 +1,6 @@
--- `thn_end_reset` meets its contract: the lengths, the call of its name on the loaded endpoint, and what it leaves. Assumes nothing.
-use borrow.Author.Tests.{eq-eqb, ne-eqb}
+-- `thn_end_reset` meets its contract: the test of the words, the call of its name on the loaded endpoint, and what it leaves. Assumes nothing.
+use Rattle.base.proofs.Decide.{passed, failed}
+use Rattle.loaded.proofs.SavedLaws.{by-state}
 use Rattle.dock_c.specs.Exported.{resetEnded}
 use borrow.Author.Needs.{needs}
 use Rattle.dock_c.proofs.thn_end_reset.Statement.{statement}
@@ -8,7 +9,17 @@ use Rattle.dock_c.proofs.thn_end_reset.Tie as tie
 returns : tie.Need-returns
 unfolding resetEnded
 returns c =
-    simp (ne-eqb _ _ (c .if1 .taken))
+    simp (failed (c .before .is-state .ensures) (c .if1 .taken))
+
+load-requires : tie.Need-load-requires
+load-requires c κs =
+    let at-if1 = c .before in
+    by-state _ .so (passed (at-if1 .before .is-state .ensures) (at-if1 .if1 .left))
+
+settle-requires : tie.Need-settle-requires
+settle-requires c κs =
+    let at-if1 = c .before .before .before .before in
+    by-state _ .so (passed (at-if1 .before .is-state .ensures) (at-if1 .if1 .left)) .size
 
 returns-2 : tie.Need-returns-2
 unfolding resetEnded
@@ -17,7 +28,7 @@ returns-2 c =
     let at-load = at-end-reset .before in
     let at-if1 = at-load .before .before in
     simp (
-      eq-eqb _ _ (at-if1 .if1 .left),
+      passed (at-if1 .before .is-state .ensures) (at-if1 .if1 .left),
       ← at-load .load .ensures,
       ← at-end-reset .end-reset .ensures,
       ← c .before .before .settle .ensures,
@@ -26,4 +37,12 @@ returns-2 c =
 pub thn-end-reset-spec : {M : Type 1} → statement M
 thn-end-reset-spec =
     tie.close
-    (tie.spec returns (λ c κs. search needs) (λ c κs. search needs) (λ c κs. search needs) (λ c. search needs) returns-2)
+    (tie.spec
+    (λ c κs. search needs)
+    (λ c. search needs)
+    returns
+    load-requires
+    (λ c κs. search needs)
+    settle-requires
+    (λ c. search needs)
+    returns-2)

@@ -1,4 +1,4 @@
--- `thn_make` meets its contract: the lengths, the call of its name on the loaded endpoint, and what it leaves. Assumes nothing.
+-- `thn_make` meets its contract: the length of the endpoint's words, the call of its name, and what it leaves. Assumes nothing.
 use borrow.Author.Tests.{eq-eqb, ne-eqb}
 use Rattle.dock_c.specs.Exported.{made}
 use borrow.Author.Needs.{needs}
@@ -8,7 +8,7 @@ use Rattle.dock_c.proofs.thn_make.Tie as tie
 returns : tie.Need-returns
 unfolding made
 returns c =
-    simp (ne-eqb _ _ (c .if1 .taken))
+    simp (ne-eqb _ _ (c .before .if1 .taken), c .unmade .ensures)
 
 returns-2 : tie.Need-returns-2
 unfolding made
@@ -25,6 +25,7 @@ pub thn-make-spec : {M : Type 1} → statement M
 thn-make-spec =
     tie.close
     (tie.spec
+    (λ c κs. search needs)
     returns
     (λ c κs. search needs)
     (λ c κs. search needs)

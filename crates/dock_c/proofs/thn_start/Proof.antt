@@ -1,7 +1,6 @@
--- `thn_start` meets its contract: the lengths, the call of its name on the loaded endpoint, and what it leaves. Assumes nothing.
-use borrow.Author.Tests.{eq-eqb, ne-eqb}
+-- `thn_start` meets its contract: the test of the words, the call of its name on the loaded endpoint, and what it leaves. Assumes nothing.
 use Rattle.base.proofs.Decide.{passed, failed}
-use Rattle.told.proofs.RequestLaws.{request-size}
+use Rattle.loaded.proofs.SavedLaws.{by-state}
 use Rattle.dock_c.specs.Exported.{started}
 use borrow.Author.Needs.{needs}
 use Rattle.dock_c.proofs.thn_start.Statement.{statement}
@@ -10,18 +9,28 @@ use Rattle.dock_c.proofs.thn_start.Tie as tie
 returns : tie.Need-returns
 unfolding started
 returns c =
-    simp (ne-eqb _ _ (c .if1 .taken))
+    simp (failed (c .before .is-state .ensures) (c .if1 .taken))
 
 returns-2 : tie.Need-returns-2
 unfolding started
 returns-2 c =
-    simp (eq-eqb _ _ (c .before .before .if1 .left), failed (c .before .is-request .ensures) (c .if2 .taken))
+    simp (passed (c .before .before .before .is-state .ensures) (c .before .before .if1 .left), failed (c .before .is-request .ensures) (c .if2 .taken))
+
+load-requires : tie.Need-load-requires
+load-requires c κs =
+    let at-if1 = c .before .before .before in
+    by-state _ .so (passed (at-if1 .before .is-state .ensures) (at-if1 .if1 .left))
+
+settle-requires : tie.Need-settle-requires
+settle-requires c κs =
+    let at-if1 = c .before .before .before .before .before .before .before .before .before .before .before .before .before in
+    by-state _ .so (passed (at-if1 .before .is-state .ensures) (at-if1 .if1 .left)) .size
 
 request-of-requires : tie.Need-request-of-requires
 request-of-requires c κs =
     let at-if2 = c .before .before .before .before in
     let at-is-request = at-if2 .before in
-    request-size _ (passed (at-is-request .is-request .ensures) (at-if2 .if2 .left))
+    passed (at-is-request .is-request .ensures) (at-if2 .if2 .left)
 
 returns-3 : tie.Need-returns-3
 unfolding started
@@ -33,7 +42,7 @@ returns-3 c =
     let at-is-request = at-if2 .before in
     let at-if1 = at-is-request .before in
     simp (
-      eq-eqb _ _ (at-if1 .if1 .left),
+      passed (at-if1 .before .is-state .ensures) (at-if1 .if1 .left),
       passed (at-is-request .is-request .ensures) (at-if2 .if2 .left),
       ← at-load .load .ensures,
       ← at-request-of .request-of .ensures,
@@ -45,13 +54,16 @@ pub thn-start-spec : {M : Type 1} → statement M
 thn-start-spec =
     tie.close
     (tie.spec
+    (λ c κs. search needs)
+    (λ c. search needs)
     returns
     (λ c κs. search needs)
+    (λ c. search needs)
     returns-2
-    (λ c κs. search needs)
+    load-requires
     request-of-requires
     (λ c κs. search needs)
-    (λ c κs. search needs)
+    settle-requires
     (λ c. search needs)
     (λ c. search needs)
     (λ c. search needs)

@@ -1,5 +1,7 @@
--- `thn_store` meets its contract: the lengths, the call of its name on the loaded endpoint, and what it leaves. Assumes nothing.
+-- `thn_store` meets its contract: the test of the words, the call of its name on the loaded endpoint, and what it leaves. Assumes nothing.
 use borrow.Author.Tests.{eq-eqb, ne-eqb}
+use Rattle.base.proofs.Decide.{passed, failed}
+use Rattle.loaded.proofs.SavedLaws.{by-state}
 use Rattle.dock_c.specs.Exported.{storedOne}
 use borrow.Author.Needs.{needs}
 use Rattle.dock_c.proofs.thn_store.Statement.{statement}
@@ -8,12 +10,23 @@ use Rattle.dock_c.proofs.thn_store.Tie as tie
 returns : tie.Need-returns
 unfolding storedOne
 returns c =
-    simp (ne-eqb _ _ (c .if1 .taken))
+    simp (failed (c .before .is-state .ensures) (c .if1 .taken))
 
 returns-2 : tie.Need-returns-2
 unfolding storedOne
 returns-2 c =
-    simp (eq-eqb _ _ (c .before .if1 .left), ne-eqb _ _ (c .if2 .taken))
+    simp (passed (c .before .before .is-state .ensures) (c .before .if1 .left), ne-eqb _ _ (c .if2 .taken))
+
+load-requires : tie.Need-load-requires
+load-requires c κs =
+    let at-if1 = c .before .before in
+    by-state _ .so (passed (at-if1 .before .is-state .ensures) (at-if1 .if1 .left))
+
+settle-told-requires : tie.Need-settle-told-requires
+settle-told-requires c κs =
+    let at-if2 = c .before .before .before .before .before .before .before .before .before .before .before .before .before in
+    let at-if1 = at-if2 .before in
+    (by-state _ .so (passed (at-if1 .before .is-state .ensures) (at-if1 .if1 .left)) .size, at-if2 .if2 .left)
 
 returns-3 : tie.Need-returns-3
 unfolding storedOne
@@ -25,7 +38,7 @@ returns-3 c =
     let at-if2 = at-load .before .before in
     let at-if1 = at-if2 .before in
     simp (
-      eq-eqb _ _ (at-if1 .if1 .left),
+      passed (at-if1 .before .is-state .ensures) (at-if1 .if1 .left),
       eq-eqb _ _ (at-if2 .if2 .left),
       ← at-load .load .ensures,
       ← at-next-store .next-store .ensures,
@@ -37,12 +50,15 @@ pub thn-store-spec : {M : Type 1} → statement M
 thn-store-spec =
     tie.close
     (tie.spec
+    (λ c κs. search needs)
+    (λ c. search needs)
     returns
+    (λ c. search needs)
     returns-2
+    load-requires
     (λ c κs. search needs)
     (λ c κs. search needs)
-    (λ c κs. search needs)
-    (λ c κs. search needs)
+    settle-told-requires
     (λ c. search needs)
     (λ c. search needs)
     (λ c. search needs)
