@@ -28,7 +28,7 @@ use Rattle.dock.specs.declared.What.{What}
 use Rattle.dock.specs.declared.What.the-variants.{Control, Bulk, Isoch}
 use Rattle.sizes.specs.Sizes.{recordsSize, packetsSize}
 use Rattle.dock.specs.Limits.{limitsHold}
-use Rattle.dock.specs.RowOne.{fits, placesFit, strays, fitsWith, nextOf}
+use Rattle.dock.specs.RowOne.{fits, placeFits, strays, fitsWith, nextOf}
 use Rattle.dock.specs.State.{fresh, withAccount, withStore, idle}
 use Rattle.dock.specs.Requests.{required}
 use Rattle.dock.specs.Start.{startNo, startTests, crowded, tooLong, beyond, charged, recordTaken, idTaken, startedEndpoint, startedRecords, writePackets, start}
@@ -183,5 +183,5 @@ allTrue (b ∷ bs) = b && allTrue bs
 
 -- Every reading holds.
 pub all-read : allTrue readings ≡ true
-unfolding readings allTrue w1 w2 w3w4 w5 w6 w7 w8 w9 w10 admits gets heldWith dockOf asking controlOf bulkOf isochOf isoOf noRecords noPackets stored submitted wordIn slotIn periodicOf startNo startTests crowded tooLong beyond charged recordTaken idTaken startedEndpoint startedRecords writePackets start store storeNo storeTests stepped slotStored ringStored finishedStored settled storedAnswer nextOf trbOf trbCount fits placesFit strays fitsWith limitsHold configure plainNo plainTests worth counts masks.held masks.lowest masks.taken freeId freeFrom heldBy any recordAt wordsOf storeAt putWords put burstsOf packetsOf packetAt deferred chained
+unfolding readings allTrue w1 w2 w3w4 w5 w6 w7 w8 w9 w10 admits gets heldWith dockOf asking controlOf bulkOf isochOf isoOf noRecords noPackets stored submitted wordIn slotIn periodicOf startNo startTests crowded tooLong beyond charged recordTaken idTaken startedEndpoint startedRecords writePackets start store storeNo storeTests stepped slotStored ringStored finishedStored settled storedAnswer nextOf trbOf trbCount fits placeFits strays fitsWith limitsHold configure plainNo plainTests worth counts masks.held masks.lowest masks.taken freeId freeFrom heldBy any recordAt wordsOf storeAt putWords put burstsOf packetsOf packetAt deferred chained
 all-read = refl

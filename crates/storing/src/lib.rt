@@ -101,7 +101,7 @@ pub fn store_one(
     records: &[u64],
     packets: &[u64],
 ) -> StoredOne
-    requires { ⌜ Ready e (length (now ring)) (length (now finished)) (length (now records)) (length (now packets)) ⌝ }
+    requires { ⌜ Ready e (length (now ring)) (length (now finished)) (now records) (length (now packets)) ⌝ }
     ensures { λ r. ⌜ (r, now (ring .exit), now (finished .exit)) ≡ storedBy e (now (ring .entry)) (now (finished .entry)) (now (records .entry)) (now (packets .entry)) ⌝ }
 {
     let number = e.work.number;
