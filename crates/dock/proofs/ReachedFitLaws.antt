@@ -1,7 +1,7 @@
 -- In every state that is reached from making, row 1 of "When the dock says no" holds of nothing: the endpoint fits, no submission strays, and no
 -- record in flight is bad; and never more than L-2 TRBs are outstanding. Assumes nothing.
 use Prim.Native.Nat.{ℕ, _+_, _-_, _*_, _<_, _≤_}
-use mathlib.Core.Bool.{Bool, true, false, not, _&&_, _||_, and-eq-true-iff}
+use mathlib.Core.Bool.{Bool, true, false, not, _&&_, _||_}
 use mathlib.Core.List.{List}
 use mathlib.Core.Logic.{_⊎_, inl, inr, ⊎-elim}
 use mathlib.Core.Path.{_≡_, refl, sym, ap, _∙_}
