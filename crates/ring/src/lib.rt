@@ -19,7 +19,7 @@ pub struct Position {
     pub cycle: bool,
 }
 
-// A TRB in a slot, with a cycle bit.
+// A TRB's words in a slot, with a cycle bit. Every store comes here.
 fn set_transfer_trb(ring: &mut [u32], place: usize, trb: Trb, cycle: bool)
     requires { ⌜ 4 * place + 4 ≤ length (now ring) ⌝ }
     ensures { λ _. ⌜ now (ring .exit) ≡ storeAt (now (ring .entry)) place trb cycle ⌝ }
@@ -29,7 +29,7 @@ fn set_transfer_trb(ring: &mut [u32], place: usize, trb: Trb, cycle: bool)
 }
 
 // How a store is made: a TRB's, with the current cycle or, deferred, with the opposite one, after which the place rises; the link's, at the last
-// slot; or that of a deferred TRB again, with the right cycle, which moves nothing.
+// slot; or a deferred TRB's second one, with the right cycle, which moves nothing.
 pub enum Manner {
     Onward { deferred: bool },
     Around,
@@ -116,7 +116,7 @@ pub fn enque_transfer_deferred_cycle(ring: &mut [u32], p: Position, trb: Trb) ->
     stored(ring, p, trb, Manner::Onward { deferred: true })
 }
 
-// A TRB that was stored with the opposite cycle at this position again, with the right one (the Rust's `set_transfer_trb` behind a TD).
+// The TRB that was stored at this position with the opposite cycle, again, with the right one (where the Rust ends a TD with `set_transfer_trb`).
 pub fn enque_transfer_again(ring: &mut [u32], p: Position, trb: Trb)
     requires { ⌜ 4 * p .place + 4 ≤ length (now ring) ⌝ }
     ensures { λ _. ⌜ now (ring .exit) ≡ enqueAgain (now (ring .entry)) p trb ⌝ }
