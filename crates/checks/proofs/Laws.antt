@@ -9,7 +9,7 @@ use borrow.Author.Tests.{ltb-true}
 use lib.Dec.{eqb, ltb}
 use lib.ListN.{length}
 use Rattle.base.proofs.Decide.{if-so}
-use Rattle.dock.proofs.RefusalTestLaws.{Limits, PlaceFits, FirstFits, by-fits, by-fits-with}
+use Rattle.dock.proofs.RefusalTestLaws.{Limits, PlaceFits, by-fits, by-fits-with}
 use Rattle.sizes.specs.Sizes.{recordsSize, packetCount, control, bulk, interrupt, isoch}
 use Rattle.base.specs.First.{pick}
 use Rattle.records.specs.declared.Record.{Record}
@@ -19,17 +19,15 @@ use Rattle.dock.specs.declared.Endpoint.{Endpoint}
 
 -- ---- an endpoint that fits
 
--- The place of the next store and that of the first TRB.
+-- The place of the next store.
 pub record Places (e : Endpoint) : Type 0 where
   pub here : e .at .place + 1 ≤ e .shape .slots
   pub idle : e .work .busy ≡ false → e .at .place + 1 < e .shape .slots
-  pub first : e .work .busy ≡ true → e .work .place + 1 < e .shape .slots
 
-places : (e : Endpoint) → PlaceFits e → FirstFits e → Places e
-places e here first = record {
+places : (e : Endpoint) → PlaceFits e → Places e
+places e here = record {
   here = ⊎-elim (λ (h : e .at .place + 1 < e .shape .slots). omega arith) (λ h. omega (arith, h .0 .0)) here;
   idle = λ b. ⊎-elim (λ (h : e .at .place + 1 < e .shape .slots). h) (λ h. absurd (false≢true (sym b ∙ h .0 .1))) here;
-  first = λ b. ⊎-elim (λ (h : e .work .busy ≡ false). absurd (false≢true (sym h ∙ b))) (λ (h : e .work .place + 1 < e .shape .slots). h) first;
 }
 
 -- What `fits` tells of an endpoint.
@@ -41,7 +39,7 @@ pub record Fit (e : Endpoint) : Type 0 where
 pub fit : (e : Endpoint) → fits e ≡ true → Fit e
 fit e t =
     let f = by-fits e .so t in
-    record { limits = f .limits; places = places e (f .place) (f .first); next = let n = f .next in omega arith }
+    record { limits = f .limits; places = places e (f .place); next = let n = f .next in omega arith }
 
 -- What `fitsWith` tells.
 pub record FitWith (e : Endpoint) (records : List ℕ) : Type 0 where

@@ -8,21 +8,12 @@ ghost use lib.Dec.{leb};
 ghost use lib.ListN.{length};
 ghost use Rattle.sizes.specs.Sizes.{recordsSize, packetCount};
 ghost use Rattle.dock.specs.Trbs.{trbCount, deferred, chained};
-ghost use Rattle.dock.specs.RowOne.{placesFit, fits, nextOf, isNone, strays, fitsWith};
+ghost use Rattle.dock.specs.RowOne.{fits, nextOf, isNone, firstFits, strays, fitsWith};
 ghost use Rattle.dock.specs.Configure.{plainNo};
 ghost use Rattle.dock.specs.Retire.{recordNo};
 ghost use Rattle.checks.specs.Step.{named};
 use dock::Endpoint;
 use records::Record;
-
-pub fn places_fit(e: Endpoint) -> bool
-    ensures { λ r. ⌜ r ≡ placesFit e ⌝ }
-{
-    if !limits::stands(e.shape.slots, e.at.place, e.work.busy, e.work.stored) {
-        return false;
-    }
-    limits::first_stands(e.shape.slots, e.work.busy, e.work.place)
-}
 
 // "L, base, dci or slot id outside the above, place above L-2 .., next id 0": none of it.
 pub fn fits(e: Endpoint) -> bool
@@ -31,7 +22,7 @@ pub fn fits(e: Endpoint) -> bool
     if !limits::limits_hold(e.shape, e.who) {
         return false;
     }
-    if !places_fit(e) {
+    if !limits::stands(e.shape.slots, e.at.place, e.work.busy, e.work.stored) {
         return false;
     }
     e.account.next != 0
@@ -123,7 +114,21 @@ fn is_past(e: Endpoint, v: Record) -> bool
     }
 }
 
-// "A store number past its request's stores."
+// The place of a deferred TD's first TRB is at most L-2.
+fn first_fits(e: Endpoint, v: Record) -> bool
+    requires { ⌜ 0 < e .shape .slots ⌝ }
+    ensures { λ r. ⌜ r ≡ firstFits e v ⌝ }
+{
+    if !is_deferred(v) {
+        return true;
+    }
+    if e.shape.slots - 1 <= e.work.place {
+        return false;
+    }
+    true
+}
+
+// "A store number past its request's stores", or a first place that does not fit.
 pub fn strays(e: Endpoint, records: &[u64]) -> bool
     requires { ⌜ (length (now records) ≡ recordsSize) × (0 < e .shape .slots) ⌝ }
     ensures { λ r. ⌜ r ≡ strays e (now (records .entry)) ⌝ }
@@ -142,7 +147,10 @@ pub fn strays(e: Endpoint, records: &[u64]) -> bool
     if v.state != records::IN_FLIGHT {
         return true;
     }
-    is_past(e, v)
+    if is_past(e, v) {
+        return true;
+    }
+    !first_fits(e, v)
 }
 
 // Row 1 of a call that is lent the records.

@@ -1,7 +1,7 @@
 -- In every state that is reached from making, row 1 of "When the dock says no" holds of nothing: the endpoint fits, no submission strays, and no
 -- record in flight is bad; and never more than L-2 TRBs are outstanding. Assumes nothing.
 use Prim.Native.Nat.{ℕ, _+_, _-_, _*_, _<_, _≤_}
-use mathlib.Core.Bool.{Bool, true, false, not, _&&_, _||_, and-eq-true-iff}
+use mathlib.Core.Bool.{Bool, true, false, not, _&&_, _||_}
 use mathlib.Core.List.{List}
 use mathlib.Core.Logic.{_⊎_, inl, inr, ⊎-elim}
 use mathlib.Core.Path.{_≡_, refl, sym, ap, _∙_}
@@ -43,7 +43,7 @@ use Rattle.dock.specs.declared.Request.{Request}
 use Rattle.dock.specs.declared.What.{What}
 use Rattle.dock.specs.declared.What.the-variants.{Control, Bulk, Interrupt, Isoch}
 use Rattle.dock.specs.Limits.{limitsHold}
-use Rattle.dock.specs.RowOne.{placesFit, fits, flies, strays, fitsWith, Next, theLink, theTrb, theFirst, none, nextOf, isNone}
+use Rattle.dock.specs.RowOne.{placeFits, firstFits, fits, flies, strays, fitsWith, Next, theLink, theTrb, theFirst, none, nextOf, isNone}
 use Rattle.dock.specs.State.{fresh, idle, withStore}
 use Rattle.dock.specs.Make.{makeNo, make, zeros}
 use Rattle.dock.specs.Configure.{plainTests, plainNo, configure}
@@ -60,62 +60,48 @@ use Rattle.dock.specs.Run.{State, stateOf, madeOf, Made, making, Call, c
 use Rattle.dock.specs.Run as run
 use Rattle.dock.proofs.Reached.{flightPart, Sound, reached-has}
 use Rattle.dock.proofs.ReachedBookLaws.{Alike, by-flies, still-held}
+use Rattle.dock.proofs.RefusalTestLaws.{implied}
 use Rattle.dock.proofs.RetireLaws.{picked, none-flies, retired-none}
 use Rattle.dock.proofs.SubmitLaws.{submit-keeps}
 use Rattle.dock.proofs.ReclaimLaws.{Left, Measured, own-measured}
-use Rattle.dock.proofs.ReachedSoundLaws.{either-true, both-false, left-true, right-true, by-true, by-not, by-fits, by-fits-with, place-slot, first-slot, stepped-follows, settled-follows, store-busy, taken, short, started-sound, fresh-sound, not-done, slots-some, marked-alike, Untouched, Looked, reclaim-result, reclaim-idle, after-sound, reached-sound}
+use Rattle.dock.proofs.ReachedSoundLaws.{either-true, both-false, left-true, right-true, by-true, by-not, by-fits, by-fits-with, place-slot, stepped-follows, settled-follows, store-busy, taken, short, started-sound, fresh-sound, not-done, slots-some, marked-alike, Untouched, Looked, reclaim-result, reclaim-idle, after-sound, reached-sound}
 
--- ---- places as facts on numbers
+-- ---- the place as a fact on numbers
 
 and-false : (a : Bool) → (a && false) ≡ false
 and-false true = refl
 and-false false = refl
-
-both-true : (a b : Bool) → a ≡ true → b ≡ true → (a && b) ≡ true
-both-true a b p q = and-eq-true-iff a b .1 (p, q)
 
 or-true : (a : Bool) → (a || true) ≡ true
 or-true true = refl
 or-true false = refl
 
 pub places-true : (e : Endpoint) → e .at .place + 1 ≤ e .shape .slots
-    → (e .at .place + 1 ≡ e .shape .slots → (e .work .busy ≡ true) × (0 < e .work .stored))
-    → (e .work .busy ≡ true → e .work .place + 1 < e .shape .slots) → placesFit e ≡ true
-unfolding placesFit
-places-true e room last first = both-true _ _ now earlier
-  where
-    now : (ltb (e .at .place + 1) (e .shape .slots) || (eqb (e .at .place + 1) (e .shape .slots) && e .work .busy && ltb 0 (e .work .stored))) ≡ true
-    now =
-        ⊎-elim
-        (λ (q : e .at .place + 1 ≡ e .shape .slots).
-        let l = last q in rw (eq-eqb _ _ q, l .0, lt-ltb 0 (e .work .stored) (l .1)) (or-true (ltb (e .at .place + 1) (e .shape .slots))))
-        (λ (q : e .at .place + 1 < e .shape .slots). rw (lt-ltb _ _ q))
-        (eq-or-lt-of-le room)
-
-    earlier : (not (e .work .busy) || ltb (e .work .place + 1) (e .shape .slots)) ≡ true
-    earlier =
-        ⊎-elim
-        (λ (b : e .work .busy ≡ true). rw (b, lt-ltb _ _ (first b)))
-        (λ (b : e .work .busy ≡ false). rw b)
-        (true-or-false (e .work .busy))
+    → (e .at .place + 1 ≡ e .shape .slots → (e .work .busy ≡ true) × (0 < e .work .stored)) → placeFits e ≡ true
+unfolding placeFits
+places-true e room last =
+    ⊎-elim
+    (λ (q : e .at .place + 1 ≡ e .shape .slots).
+    let l = last q in rw (eq-eqb _ _ q, l .0, lt-ltb 0 (e .work .stored) (l .1)) (or-true (ltb (e .at .place + 1) (e .shape .slots))))
+    (λ (q : e .at .place + 1 < e .shape .slots). rw (lt-ltb _ _ q))
+    (eq-or-lt-of-le room)
 
 -- Where the place is L-1, a submission is under way of which a TRB is stored.
-pub last-slot : (e : Endpoint) → placesFit e ≡ true → e .at .place + 1 ≡ e .shape .slots → (e .work .busy ≡ true) × (0 < e .work .stored)
-unfolding placesFit
+pub last-slot : (e : Endpoint) → placeFits e ≡ true → e .at .place + 1 ≡ e .shape .slots → (e .work .busy ≡ true) × (0 < e .work .stored)
+unfolding placeFits
 last-slot e p q =
     let plain = ltb (e .at .place + 1) (e .shape .slots) in
     let last = eqb (e .at .place + 1) (e .shape .slots) in
     let more = last && e .work .busy && ltb 0 (e .work .stored) in
-    let started = not (e .work .busy) || ltb (e .work .place + 1) (e .shape .slots) in
     ⊎-elim
     (λ (t : plain ≡ true). absurd (omega (arith, ltb-true (e .at .place + 1) (e .shape .slots) t)))
     (λ (t : more ≡ true). (
       right-true last (e .work .busy) (left-true (last && e .work .busy) (ltb 0 (e .work .stored)) t),
       ltb-true 0 (e .work .stored) (right-true (last && e .work .busy) (ltb 0 (e .work .stored)) t),
     ))
-    (either-true plain more (left-true (plain || more) started p))
+    (either-true plain more p)
 
-pub fits-true : (e : Endpoint) → limitsHold (e .shape) (e .who) ≡ true → placesFit e ≡ true
+pub fits-true : (e : Endpoint) → limitsHold (e .shape) (e .who) ≡ true → placeFits e ≡ true
     → 0 < e .account .next → fits e ≡ true
 fits-true e limits places above = if-so (by-fits e) ((limits, places), ne-eqb (e .account .next) 0 (λ (z : e .account .next ≡ 0). omega arith))
 
@@ -126,19 +112,22 @@ pub record Straight (e : Endpoint) (records : List ℕ) : Type 0 where
   pub flying : flies records (e .account .occupancy) (e .work .number) ≡ true
   pub most : e .work .stored ≤ trbCount (recordAt records (e .work .number))
   pub some : isNone (nextOf e (recordAt records (e .work .number))) ≡ false
+  pub first : deferred (recordAt records (e .work .number)) ≡ true → e .work .place + 1 < e .shape .slots
 
 by-straight : (e : Endpoint) (records : List ℕ)
     → Decides
     (ltb (e .work .number) recordCount && flies records (e .account .occupancy) (e .work .number)
     && leb (e .work .stored) (trbCount (recordAt records (e .work .number)))
-    && not (isNone (nextOf e (recordAt records (e .work .number)))))
-    ((((e .work .number < recordCount) × (flies records (e .account .occupancy) (e .work .number) ≡ true))
+    && not (isNone (nextOf e (recordAt records (e .work .number)))) && firstFits e (recordAt records (e .work .number)))
+    (((((e .work .number < recordCount) × (flies records (e .account .occupancy) (e .work .number) ≡ true))
     × (e .work .stored ≤ trbCount (recordAt records (e .work .number))))
     × (isNone (nextOf e (recordAt records (e .work .number))) ≡ false))
+    × (deferred (recordAt records (e .work .number)) ≡ true → e .work .place + 1 < e .shape .slots))
 by-straight e records =
-    both (both (both (by-ltb (e .work .number) recordCount) (by-true (flies records (e .account .occupancy) (e .work .number))))
+    both (both (both (both (by-ltb (e .work .number) recordCount) (by-true (flies records (e .account .occupancy) (e .work .number))))
     (by-leb (e .work .stored) (trbCount (recordAt records (e .work .number)))))
-    (by-not (isNone (nextOf e (recordAt records (e .work .number)))))
+    (by-not (isNone (nextOf e (recordAt records (e .work .number))))))
+    (implied (by-true (deferred (recordAt records (e .work .number)))) (by-ltb (e .work .place + 1) (e .shape .slots)))
 
 not-without : (a b : Bool) → (a ≡ true → b ≡ true) → (a && not b) ≡ false
 not-without true b k = rw (k refl)
@@ -151,13 +140,13 @@ never-without false b t e = absurd (never-both e refl)
 pub strays-none : (e : Endpoint) (records : List ℕ) → (e .work .busy ≡ true → Straight e records) → strays e records ≡ false
 unfolding strays
 strays-none e records k =
-    not-without (e .work .busy) _ (λ b. let s = k b in if-so (by-straight e records) (((s .within, s .flying), s .most), s .some))
+    not-without (e .work .busy) _ (λ b. let s = k b in if-so (by-straight e records) ((((s .within, s .flying), s .most), s .some), s .first))
 
 pub strays-facts : (e : Endpoint) (records : List ℕ) → strays e records ≡ false → e .work .busy ≡ true → Straight e records
 unfolding strays
 strays-facts e records t b =
     let f = by-straight e records .so (never-without (e .work .busy) _ t b) in
-    record { within = f .0 .0 .0; flying = f .0 .0 .1; most = f .0 .1; some = f .1 }
+    record { within = f .0 .0 .0 .0; flying = f .0 .0 .0 .1; most = f .0 .0 .1; some = f .0 .1; first = f .1 }
 
 -- ---- what the next store is
 
@@ -201,42 +190,42 @@ module _ (e : Endpoint) (v : Record) where
 record Stepping (v : Record) (after : Endpoint) : Type 0 where
   room : after .at .place + 1 ≤ after .shape .slots
   last : after .at .place + 1 ≡ after .shape .slots → 0 < after .work .stored
-  first : after .work .place + 1 < after .shape .slots
+  first : deferred v ≡ true → after .work .place + 1 < after .shape .slots
   busy : after .work .busy ≡ true
   left : (after .work .stored ≤ trbCount v) ⊎ (isNone (nextOf after v) ≡ true)
 
-module _ (e : Endpoint) (v : Record) (packets : List ℕ) (p : placesFit e ≡ true) (b : e .work .busy ≡ true) (few : e .work .stored ≤ trbCount v)
-    (slots : fewestSlots ≤ e .shape .slots) where
+module _ (e : Endpoint) (v : Record) (packets : List ℕ) (p : placeFits e ≡ true) (b : e .work .busy ≡ true) (few : e .work .stored ≤ trbCount v)
+    (slots : fewestSlots ≤ e .shape .slots) (low : deferred v ≡ true → e .work .place + 1 < e .shape .slots) where
   before-last : (e .at .place + 1 ≡ e .shape .slots → ⊥) → e .at .place + 1 < e .shape .slots
   before-last d = ⊎-elim (λ (z : e .at .place + 1 ≡ e .shape .slots). absurd (d z)) (λ (z : e .at .place + 1 < e .shape .slots). z) (eq-or-lt-of-le (place-slot e p))
 
   stepping : (n : Next) → isNone n ≡ false → Tells e v n → Stepping v (stepped n e v packets)
   unfolding stepped
-  stepping theLink s q = record { room = omega arith; last = λ (l : 0 + 1 ≡ e .shape .slots). absurd (omega arith); first = first-slot e p b; busy = refl; left = inl few }
+  stepping theLink s q = record { room = omega arith; last = λ (l : 0 + 1 ≡ e .shape .slots). absurd (omega arith); first = low; busy = refl; left = inl few }
   stepping theTrb s q = record {
     room = omega (arith, before-last (q .0));
     last = λ l. omega arith;
-    first = first-slot e p b;
+    first = low;
     busy = refl;
     left = inl (omega (arith, q .1));
   }
   stepping theFirst s q = record {
     room = place-slot e p;
     last = λ l. absurd (q .0 l);
-    first = first-slot e p b;
+    first = low;
     busy = refl;
     left = inr (none-next (stepped theFirst e v packets) v (q .0) (omega (arith, q .1)));
   }
   stepping none s q = absurd (never-both refl s)
 
 module _ (v : Record) (after : Endpoint) (k : Stepping v after) where
-  settled-places : placesFit (settled after v) ≡ true
+  settled-places : placeFits (settled after v) ≡ true
   unfolding settled
   settled-places =
-      picked (λ (x : Endpoint). placesFit x ≡ true) (isNone (nextOf after v)) _ _
+      picked (λ (x : Endpoint). placeFits x ≡ true) (isNone (nextOf after v)) _ _
       (λ t. places-true (withStore after (after .at) (after .periodic .frame) idle) (k .room)
-      (λ q. absurd (never-both t (ap isNone (link-next after v q)))) (λ b. absurd (never-both b refl)))
-      (λ t. places-true after (k .room) (λ q. (k .busy, k .last q)) (λ b. k .first))
+      (λ q. absurd (never-both t (ap isNone (link-next after v q)))))
+      (λ t. places-true after (k .room) (λ q. (k .busy, k .last q)))
 
   settled-straight : (records : List ℕ) → recordAt records (after .work .number) ≡ v → after .work .number < recordCount
       → flies records (after .account .occupancy) (after .work .number) ≡ true → strays (settled after v) records ≡ false
@@ -250,12 +239,13 @@ module _ (v : Record) (after : Endpoint) (k : Stepping v after) where
         flying = flying;
         most = rw same (⊎-elim (λ (l : after .work .stored ≤ trbCount v). l) (λ (n : isNone (nextOf after v) ≡ true). absurd (never-both n t)) (k .left));
         some = rw same t;
+        first = rw same (k .first);
       }))
 
 -- ---- the invariant
 
 pub record Placed (s : State) : Type 0 where
-  pub placing : placesFit (s .endpoint) ≡ true
+  pub placing : placeFits (s .endpoint) ≡ true
   pub straight : strays (s .endpoint) (s .records) ≡ false
   -- "Outstanding + required above L-2" is refused.
   pub capacity : s .endpoint .account .outstanding ≤ s .endpoint .shape .slots - 2
@@ -267,7 +257,7 @@ pub record Placed (s : State) : Type 0 where
 fresh-placed : (shape : Shape) (who : Identity) (ring finished records packets : List ℕ) → fewestSlots ≤ shape .slots
     → Placed (stateOf (fresh shape who) ring finished records packets)
 fresh-placed shape who ring finished records packets some = record {
-  placing = places-true (fresh shape who) (omega arith) (λ (q : 0 + 1 ≡ shape .slots). absurd (omega arith)) (λ b. absurd (never-both b refl));
+  placing = places-true (fresh shape who) (omega arith) (λ (q : 0 + 1 ≡ shape .slots). absurd (omega arith));
   straight = strays-none (fresh shape who) records (λ b. absurd (never-both b refl));
   capacity = omega arith;
   bounds = λ r l f. absurd (never-both (by-flies records masks.none r .so f .0) (none-free r));
@@ -303,7 +293,7 @@ placed-parts : (s : State) (ring finished packets : List ℕ) (periodic : Period
       work = s .endpoint .work;
     })
     ring finished (s .records) packets)
-unfolding placesFit strays nextOf
+unfolding placeFits strays nextOf
 placed-parts s ring finished packets periodic flags k = record { placing = k .placing; straight = k .straight; capacity = k .capacity; bounds = k .bounds }
 
 configure-placed : (s : State) (packet burst interval : ℕ) → Placed s → Placed (run.after s (configures packet burst interval))
@@ -409,7 +399,7 @@ module _ (s : State) (request : Request) (lengths : List ℕ) (h : Sound s) (k :
       let e = startedEndpoint (s .endpoint) (s .records) request lengths in
       let sound = started-sound s request lengths h t in
       record {
-        placing = places-true e (omega (arith, below)) (λ (q : s .endpoint .at .place + 1 ≡ s .endpoint .shape .slots). absurd (omega (arith, below))) (λ b. below);
+        placing = places-true e (omega (arith, below)) (λ (q : s .endpoint .at .place + 1 ≡ s .endpoint .shape .slots). absurd (omega (arith, below)));
         straight = strays-none e after
             (λ b. record {
               within = sound .underway b .within;
@@ -418,6 +408,7 @@ module _ (s : State) (request : Request) (lengths : List ℕ) (h : Sound s) (k :
               some = ap isNone (trb-next e (recordAt after (recordTaken (s .endpoint)))
                   (λ (q : s .endpoint .at .place + 1 ≡ s .endpoint .shape .slots). omega (arith, below))
                   (rw new-here (count-some request (length lengths) (idTaken (s .endpoint) (s .records)) (s .endpoint .at .place))));
+              first = λ late. below;
             });
         capacity = roomy;
         bounds = started-bounds;
@@ -444,7 +435,7 @@ store-placed s h k =
     let b = store-busy s h (eqb-true _ _ t) in
     let f = strays-facts e (s .records) (k .straight) b in
     let after = stepped n e v (s .packets) in
-    let step = stepping e v (s .packets) (k .placing) b (f .most) (slots-some s h) n (f .some) (next-tells e v) in
+    let step = stepping e v (s .packets) (k .placing) b (f .most) (slots-some s h) (f .first) n (f .some) (next-tells e v) in
     let follows = stepped-follows e (k .placing) b v (s .packets) n in
     let same : after .work .number ≡ e .work .number = follows .work (step .busy) .1 in
     let ends = settled-follows e after v follows in
@@ -457,7 +448,7 @@ store-placed s h k =
     (λ t. k)
 
 -- Calls that find no submission under way, and leave places and counts: what flies afterwards flew before.
-idle-placed : (s : State) (e : Endpoint) (records packets : List ℕ) → Placed s → placesFit e ≡ true → e .work .busy ≡ false
+idle-placed : (s : State) (e : Endpoint) (records packets : List ℕ) → Placed s → placeFits e ≡ true → e .work .busy ≡ false
     → e .shape ≡ s .endpoint .shape → e .account .outstanding ≤ s .endpoint .account .outstanding → Alike (s .records) records
     → ((r : ℕ) → Measured (recordAt (s .records) r) → Measured (recordAt records r))
     → ((r : ℕ) → r < recordCount → held (e .account .occupancy) r ≡ true → held (s .endpoint .account .occupancy) r ≡ true)
@@ -492,7 +483,7 @@ cancel-placed s id k =
     (λ t. k)
 
 retire-placed : (s : State) → Sound s → Placed s → Placed (run.after s retires)
-unfolding retire recordNo recordTests placesFit
+unfolding retire recordNo recordTests placeFits
 retire-placed s h k =
     let e = s .endpoint in
     picked (λ (a : Changed × List ℕ). Placed (stateOf (a .0 .endpoint) (s .ring) (s .finished) (a .1) (s .packets))) (eqb (recordNo e (s .records)) 0) _ _
@@ -505,8 +496,8 @@ retire-placed s h k =
     })
     (λ t. k)
 
-leave-places : (e : Endpoint) (r count : ℕ) (halts : Bool) → placesFit (leave e r count halts) ≡ placesFit e
-unfolding placesFit leave
+leave-places : (e : Endpoint) (r count : ℕ) (halts : Bool) → placeFits (leave e r count halts) ≡ placeFits e
+unfolding placeFits leave
 leave-places e r count halts = refl
 
 leave-placed : (s : State) (r count : ℕ) (halts : Bool) (records packets : List ℕ) → Placed s → s .endpoint .work .busy ≡ false → Alike (s .records) records

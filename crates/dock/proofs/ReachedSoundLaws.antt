@@ -51,12 +51,12 @@ use Rattle.dock.specs.declared.StoredOne.{StoredOne}
 use Rattle.dock.specs.declared.Taken.{Taken}
 use Rattle.dock.specs.Limits.{limitsHold}
 use Rattle.dock.specs.State.{fresh, idle, withStore}
-use Rattle.dock.specs.RowOne.{placesFit, fits, fitsWith, strays, Next, theLink, theTrb, theFirst, none, nextOf, isNone}
+use Rattle.dock.specs.RowOne.{placeFits, fits, fitsWith, strays, Next, theLink, theTrb, theFirst, none, nextOf, isNone}
 use Rattle.dock.specs.Make.{sized, makeTests, makeNo, make, zeros}
 use Rattle.dock.specs.Configure.{plainNo, configure}
 use Rattle.dock.specs.Requests.{recordFor}
 use Rattle.dock.specs.Start.{tooLong, isFull, startTests, startNo, recordTaken, numberFrom, idTaken, charged, atLeastOne, writePackets, startedEndpoint, startedRecords, start, someOver, sumOf}
-use Rattle.dock.specs.Trbs.{trbOf, firstTrb, linkFor}
+use Rattle.dock.specs.Trbs.{trbOf, deferred, firstTrb, linkFor}
 use Rattle.dock.specs.NextStore.{storeTests, storeNo, stepped, ringStored, finishedStored, settled, firstCycle}
 use Rattle.dock.specs.NextStore as storing
 use Rattle.dock.specs.HandOver.{slotNumber, slotFor, handOverNo, handOver}
@@ -67,6 +67,8 @@ use Rattle.dock.specs.Reset.{beginNo, beginReset, endNo, endReset}
 use Rattle.dock.specs.Run.{State, stateOf, madeOf, Made, making, Call, configures, starts, stores, submits, hands, reclaims, cancels, retires, begins, ends, stops, resumes, points, after, Reached}
 use Rattle.dock.proofs.Reached.{flightPart, flightSum, Books, Sound, reached-has}
 use Rattle.dock.proofs.ReachedBookLaws.{Alike, alike-same, alike-set, flies-alike, books-alike, books-freed, books-taken, taken-long, taken-flies, part-flies, part-none}
+use Rattle.dock.proofs.RefusalTestLaws.{on-course}
+use Rattle.dock.proofs.StoreNextLaws.{because}
 use Rattle.dock.proofs.RetireLaws.{picked, sum-none, retiring, books-retired}
 use Rattle.dock.proofs.SubmitLaws.{submit-keeps}
 use Rattle.dock.proofs.ReclaimLaws.{Left, own-record-same, own-packets-same, Touches, flying-touches}
@@ -272,50 +274,38 @@ pub by-not : (b : Bool) → Decides (not b) (b ≡ false)
 by-not b = record { so = not-true b; not-so = λ f t. never-both (not-false b f) t }
 
 pub by-fits : (e : Endpoint)
-    → Decides (fits e) (((limitsHold (e .shape) (e .who) ≡ true) × (placesFit e ≡ true)) × (eqb (e .account .next) 0 ≡ false))
+    → Decides (fits e) (((limitsHold (e .shape) (e .who) ≡ true) × (placeFits e ≡ true)) × (eqb (e .account .next) 0 ≡ false))
 unfolding fits
-by-fits e = both (both (by-true _) (by-true (placesFit e))) (by-not (eqb (e .account .next) 0))
+by-fits e = both (both (by-true _) (by-true (placeFits e))) (by-not (eqb (e .account .next) 0))
 
 pub by-fits-with : (e : Endpoint) (records : List ℕ)
     → Decides (fitsWith e records) (((fits e ≡ true) × (length records ≡ recordsSize)) × (strays e records ≡ false))
 unfolding fitsWith
 by-fits-with e records = both (both (by-true (fits e)) (by-eqb (length records) recordsSize)) (by-not (strays e records))
 
--- A place that fits is one of the slots, and so is that of a submission's first TRB.
-module _ (e : Endpoint) (p : placesFit e ≡ true) where
+-- A place that fits is one of the slots.
+module _ (e : Endpoint) (p : placeFits e ≡ true) where
   pub place-slot : e .at .place + 1 ≤ e .shape .slots
-  unfolding placesFit
+  unfolding placeFits
   place-slot =
       let plain = ltb (e .at .place + 1) (e .shape .slots) in
       let last = eqb (e .at .place + 1) (e .shape .slots) in
       let more = last && e .work .busy && ltb 0 (e .work .stored) in
-      let started = not (e .work .busy) || ltb (e .work .place + 1) (e .shape .slots) in
       ⊎-elim
       (λ t. omega (arith, ltb-true (e .at .place + 1) (e .shape .slots) t))
       (λ t.
       let two = left-true (last && e .work .busy) (ltb 0 (e .work .stored)) t in
       omega (arith, eqb-true (e .at .place + 1) (e .shape .slots) (left-true last (e .work .busy) two)))
-      (either-true plain more (left-true (plain || more) started p))
+      (either-true plain more p)
 
-  pub first-slot : e .work .busy ≡ true → e .work .place + 1 < e .shape .slots
-  unfolding placesFit
-  first-slot b =
-      let plain = ltb (e .at .place + 1) (e .shape .slots) in
-      let last = eqb (e .at .place + 1) (e .shape .slots) in
-      let more = last && e .work .busy && ltb 0 (e .work .stored) in
-      let started = not (e .work .busy) || ltb (e .work .place + 1) (e .shape .slots) in
-      ⊎-elim
-      (λ t. absurd (never-both b (not-true (e .work .busy) t)))
-      (λ t. ltb-true (e .work .place + 1) (e .shape .slots) t)
-      (either-true (not (e .work .busy)) (ltb (e .work .place + 1) (e .shape .slots)) (right-true (plain || more) started p))
-
-module _ (e : Endpoint) (p : placesFit e ≡ true) (b : e .work .busy ≡ true) (v : Record) (packets : List ℕ) where
-  ring-long : (n : Next) (ring : List ℕ) → length ring ≡ ringSize (e .shape .slots) → length (ringStored n e v packets ring) ≡ length ring
+module _ (e : Endpoint) (p : placeFits e ≡ true) (b : e .work .busy ≡ true) (v : Record) (packets : List ℕ) where
+  ring-long : (n : Next) → nextOf e v ≡ n → (deferred v ≡ true → e .work .place + 1 < e .shape .slots) → (ring : List ℕ) → length ring ≡ ringSize (e .shape .slots)
+      → length (ringStored n e v packets ring) ≡ length ring
   unfolding ringStored
-  ring-long theLink ring l = store-length ring (e .at .place) (linkFor e v) (e .at .cycle) (omega (arith, place-slot e p))
-  ring-long theTrb ring l = store-length ring (e .at .place) (trbOf e v packets (e .work .stored)) (firstCycle e v) (omega (arith, place-slot e p))
-  ring-long theFirst ring l = store-length ring (e .work .place) (firstTrb e v packets) (e .work .cycle) (omega (arith, first-slot e p b))
-  ring-long none ring l = refl
+  ring-long theLink next low ring l = store-length ring (e .at .place) (linkFor e v) (e .at .cycle) (omega (arith, place-slot e p))
+  ring-long theTrb next low ring l = store-length ring (e .at .place) (trbOf e v packets (e .work .stored)) (firstCycle e v) (omega (arith, place-slot e p))
+  ring-long theFirst next low ring l = store-length ring (e .work .place) (firstTrb e v packets) (e .work .cycle) (omega (arith, low (because e v theFirst next .1)))
+  ring-long none next low ring l = refl
 
   finished-long : (n : Next) (finished : List ℕ) → length finished ≡ ringSize (e .shape .slots) → length (finishedStored n e finished) ≡ length finished
   unfolding finishedStored
@@ -346,13 +336,13 @@ module _ (s : State) (h : Sound s) where
   unfolding storeNo storeTests
   store-busy t = not-false _ (quiet (storeTests (s .endpoint) (length (s .ring)) (length (s .finished)) (s .records) (length (s .packets))) 1 refl t (omega arith))
 
-  store-places : refusal ≡ 0 → placesFit (s .endpoint) ≡ true
+  store-fits : refusal ≡ 0 → (placeFits (s .endpoint) ≡ true) × (strays (s .endpoint) (s .records) ≡ false)
   unfolding storeNo storeTests
-  store-places t =
+  store-fits t =
       let e = s .endpoint in
       let row = not-false _ (quiet (storeTests e (length (s .ring)) (length (s .finished)) (s .records) (length (s .packets))) 0 refl t (omega arith)) in
       let all = both (both (both (by-fits-with e (s .records)) (by-eqb (length (s .ring)) (ringSize (e .shape .slots)))) (by-eqb (length (s .finished)) (ringSize (e .shape .slots)))) (by-eqb (length (s .packets)) packetsSize) .so row in
-      by-fits e .so (all .0 .0 .0 .0 .0) .0 .1
+      (by-fits e .so (all .0 .0 .0 .0 .0) .0 .1, all .0 .0 .0 .1)
 
   store-sound : Sound (after s stores)
   unfolding storing.store
@@ -362,11 +352,11 @@ module _ (s : State) (h : Sound s) where
       let n = nextOf e v in
       picked (λ (a : StoredOne × List ℕ × List ℕ). Sound (stateOf (a .0 .endpoint) (a .1) (a .2) (s .records) (s .packets))) (eqb refusal 0) _ _
       (λ t.
-      let p = store-places (eqb-true _ _ t) in
+      let p = store-fits (eqb-true _ _ t) .0 in
       let b = store-busy (eqb-true _ _ t) in
       follows-sound s _ _ _ h
       (settled-follows e (stepped n e v (s .packets)) v (stepped-follows e p b v (s .packets) n))
-      (ring-long e p b v (s .packets) n (s .ring) (h .ringLong))
+      (ring-long e p b v (s .packets) n refl (on-course e (s .records) (store-fits (eqb-true _ _ t) .1) b .first) (s .ring) (h .ringLong))
       (finished-long e p b v (s .packets) n (s .finished) (h .finishedLong)))
       (λ t. h)
 

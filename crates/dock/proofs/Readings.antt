@@ -25,7 +25,7 @@ use Rattle.dock.specs.declared.Shape.{Shape}
 use Rattle.dock.specs.declared.What.{What}
 use Rattle.dock.specs.declared.What.the-variants.{Control, Bulk, Isoch}
 use Rattle.dock.specs.Limits.{limitsHold}
-use Rattle.dock.specs.RowOne.{fits, placesFit, strays, fitsWith, nextOf}
+use Rattle.dock.specs.RowOne.{fits, placeFits, strays, fitsWith, nextOf}
 use Rattle.dock.specs.Trbs.{trbOf, trbCount, deferred, chained}
 use Rattle.dock.specs.State.{withAccount}
 use Rattle.dock.specs.Make.{make, makeNo, makeTests, sized}
@@ -226,7 +226,7 @@ w1-read = rw (numbers-are reached many, ledger-made) counted
 -- ---- the law
 
 others-read : allTrue others ≡ true
-unfolding others allTrue w2 w3w4 w5 w6 w7 w8 w9 w10 dockOf ran same tells wordIn asking control bulk iso event make makeNo makeTests sized limitsHold configure plainNo plainTests fits placesFit strays fitsWith nextOf trbOf trbCount deferred chained startNo startTests crowded tooLong beyond charged recordTaken idTaken startedEndpoint startedRecords writePackets start store storeNo storeTests stepped slotStored ringStored finishedStored settled storedAnswer finish submit slotFor foreign handOverNo handOverTests handOver accepted counts worth leave mismatched completeTests complete placeOf reclaimBulk reclaimControl closeBelow total sweep reclaimIso reclaimTests reclaimNo reclaimFlying reclaim masks.held masks.lowest masks.taken masks.freed freeId freeFrom heldBy any findFrom findId recordAt setWord wordsOf wordsAt storeAt isSlot slotOf putWords put burstsOf packetsOf packetAt putPacket finishedAt fillPlace
+unfolding others allTrue w2 w3w4 w5 w6 w7 w8 w9 w10 dockOf ran same tells wordIn asking control bulk iso event make makeNo makeTests sized limitsHold configure plainNo plainTests fits placeFits strays fitsWith nextOf trbOf trbCount deferred chained startNo startTests crowded tooLong beyond charged recordTaken idTaken startedEndpoint startedRecords writePackets start store storeNo storeTests stepped slotStored ringStored finishedStored settled storedAnswer finish submit slotFor foreign handOverNo handOverTests handOver accepted counts worth leave mismatched completeTests complete placeOf reclaimBulk reclaimControl closeBelow total sweep reclaimIso reclaimTests reclaimNo reclaimFlying reclaim masks.held masks.lowest masks.taken masks.freed freeId freeFrom heldBy any findFrom findId recordAt setWord wordsOf wordsAt storeAt isSlot slotOf putWords put burstsOf packetsOf packetAt putPacket finishedAt fillPlace
 others-read = refl
 
 -- Every reading holds.

@@ -28,7 +28,7 @@ use Rattle.dock.specs.declared.Endpoint.{Endpoint}
 use Rattle.dock.specs.declared.Outcome.the-variants.{Done, Refused}
 use Rattle.dock.specs.declared.Reclaimed.the-variants as answer
 use Rattle.dock.specs.declared.ReclaimedOne.{ReclaimedOne}
-use Rattle.dock.specs.RowOne.{placesFit, fits, strays, fitsWith}
+use Rattle.dock.specs.RowOne.{placeFits, fits, strays, fitsWith}
 use Rattle.dock.specs.State.{withAccount}
 use Rattle.dock.specs.Start.{idTaken}
 use Rattle.dock.specs.Reclaim.{final, reclaimStopped, leave, nothing, badRecord, reclaimTests, reclaimNo, reclaimFound, reclaim}
@@ -127,7 +127,7 @@ module _ (s : State) (h : Sound s) (ready : Ready (s .endpoint)) (id : ℕ) wher
 -- ---- a request is reclaimed once
 
 leave-fits : (e : Endpoint) (r count : ℕ) (halts : Bool) → fits (leave e r count halts) ≡ fits e
-unfolding fits placesFit leave
+unfolding fits placeFits leave
 leave-fits e r count halts = refl
 
 leave-ready : (e : Endpoint) (r count : ℕ) (halts : Bool) → Ready e → Ready (leave e r count halts)

@@ -1,7 +1,7 @@
 -- What the tests of the calls decide, as facts on numbers: the limits, the places, the rows of a submission's refusals and a store number past its
 -- request's stores. Assumes nothing.
 use Prim.Native.Nat.{ℕ, zero, suc, _+_, _-_, _*_, _%_, _^_, _<_, _≤_}
-use mathlib.Core.Bool.{Bool, true, false, not, _&&_, false≢true}
+use mathlib.Core.Bool.{Bool, true, false, not, _&&_, _||_, false≢true}
 use mathlib.Core.List.{List, [], _∷_}
 use mathlib.Core.Logic.{_⊎_, inl, inr}
 use mathlib.Core.Path.{_≡_, refl, sym, _∙_}
@@ -26,12 +26,12 @@ use Rattle.dock.specs.declared.Endpoint.{Endpoint}
 use Rattle.dock.specs.declared.Identity.{Identity}
 use Rattle.dock.specs.declared.Shape.{Shape}
 use Rattle.dock.specs.declared.What.the-variants.{Control, Bulk, Interrupt, Isoch}
-use Rattle.dock.specs.RowOne.{fits, placesFit, fitsWith, strays, flies, nextOf, isNone}
+use Rattle.dock.specs.RowOne.{fits, placeFits, firstFits, fitsWith, strays, flies, nextOf, isNone}
 use Rattle.dock.specs.HandOver.{isOutside, slotFor, foreign}
 use Rattle.dock.specs.Limits.{limitsHold}
 use Rattle.dock.specs.Make.{sized}
 use Rattle.dock.specs.Start.{crowded, sumOf, someOver, tooLong, isFull, beyond}
-use Rattle.dock.specs.Trbs.{trbCount}
+use Rattle.dock.specs.Trbs.{trbCount, deferred}
 
 -- ---- what a dock may hold
 
@@ -94,44 +94,42 @@ module _ (e : Endpoint) where
       (e .at .place + 1 < e .shape .slots)
       ⊎ (((e .at .place + 1 ≡ e .shape .slots) × (e .work .busy ≡ true)) × (0 < e .work .stored))
 
-  -- The first place of a submission under way is at most L-2.
-  abbrev pub FirstFits : Type 0
-  FirstFits = (e .work .busy ≡ false) ⊎ (e .work .place + 1 < e .shape .slots)
-
-  by-places : Decides (placesFit e) (PlaceFits × FirstFits)
-  unfolding placesFit
-  by-places =
-      both
-      (either (by-ltb (e .at .place + 1) (e .shape .slots)) (both (both (by-eqb (e .at .place + 1) (e .shape .slots)) (by-true (e .work .busy))) (by-ltb 0 (e .work .stored))))
-      (either (by-false (e .work .busy)) (by-ltb (e .work .place + 1) (e .shape .slots)))
+  by-place : Decides (placeFits e) PlaceFits
+  unfolding placeFits
+  by-place = either (by-ltb (e .at .place + 1) (e .shape .slots)) (both (both (by-eqb (e .at .place + 1) (e .shape .slots)) (by-true (e .work .busy))) (by-ltb 0 (e .work .stored)))
 
   -- "L, base, dci or slot id outside the above, place above L-2 .., next id 0": none of it.
   pub record Fits : Type 0 where
     pub limits : Limits (e .shape) (e .who)
     pub place : PlaceFits
-    pub first : FirstFits
     pub next : e .account .next ≡ 0 → ⊥
 
   pub by-fits : Decides (fits e) Fits
   unfolding fits
   by-fits =
       reworded
-      (λ k. record { limits = k .0 .0; place = k .0 .1 .0; first = k .0 .1 .1; next = k .1 })
-      (λ k. ((k .limits, (k .place, k .first)), k .next))
-      (both (both (by-limits (e .shape) (e .who)) by-places) (negated (by-eqb (e .account .next) 0)))
+      (λ k. record { limits = k .0 .0; place = k .0 .1; next = k .1 })
+      (λ k. ((k .limits, k .place), k .next))
+      (both (both (by-limits (e .shape) (e .who)) by-place) (negated (by-eqb (e .account .next) 0)))
 
 held-to : (a b : Bool) → (a && not b) ≡ false → a ≡ true → b ≡ true
 held-to true true s t = refl
 held-to true false s t = sym s
 held-to false b s t = absurd (false≢true t)
 
--- The submission under way has a record that is held and in flight, and a store that is left.
+-- A test that is asked only where another holds.
+pub implied : {a b : Bool} {P Q : Type 0} → Decides a P → Decides b Q → Decides (not a || b) (P → Q)
+implied {a = true} p q = record { so = λ e h. q .so e; not-so = λ e k. q .not-so e (k (p .so refl)) }
+implied {a = false} p q = record { so = λ e h. absurd (p .not-so refl h); not-so = λ e k. false≢true (sym e) }
+
+-- The submission under way has a record that is held and in flight, a store that is left, and for a deferred TD a first place of at most L-2.
 pub record OnCourse (e : Endpoint) (records : List ℕ) : Type 0 where
   pub number : e .work .number < recordCount
   pub held : masks.held (e .account .occupancy) (e .work .number) ≡ true
   pub flying : recordAt records (e .work .number) .state ≡ inFlight
   pub counted : e .work .stored ≤ trbCount (recordAt records (e .work .number))
   pub more : isNone (nextOf e (recordAt records (e .work .number))) ≡ false
+  pub first : deferred (recordAt records (e .work .number)) ≡ true → e .work .place + 1 < e .shape .slots
 
 module _ (e : Endpoint) (records : List ℕ) where
   abbrev onCourse : Bool
@@ -140,18 +138,21 @@ module _ (e : Endpoint) (records : List ℕ) where
       && flies records (e .account .occupancy) (e .work .number)
       && leb (e .work .stored) (trbCount (recordAt records (e .work .number)))
       && not (isNone (nextOf e (recordAt records (e .work .number))))
+      && firstFits e (recordAt records (e .work .number))
 
   by-course : Decides onCourse (OnCourse e records)
   by-course =
       let v = recordAt records (e .work .number) in
       reworded
-      (λ k. record { number = k .0 .0 .0; held = k .0 .0 .1 .0; flying = k .0 .0 .1 .1; counted = k .0 .1; more = k .1 })
-      (λ k. (((k .number, (k .held, k .flying)), k .counted), k .more))
+      (λ k. record { number = k .0 .0 .0 .0; held = k .0 .0 .0 .1 .0; flying = k .0 .0 .0 .1 .1; counted = k .0 .0 .1; more = k .0 .1; first = k .1 })
+      (λ k. ((((k .number, (k .held, k .flying)), k .counted), k .more), k .first))
+      (both
       (both
       (both
       (both (by-ltb (e .work .number) recordCount) (both (by-true (masks.held (e .account .occupancy) (e .work .number))) (by-eqb (v .state) inFlight)))
       (by-leb (e .work .stored) (trbCount v)))
       (by-false (isNone (nextOf e v))))
+      (implied (by-true (deferred v)) (by-ltb (e .work .place + 1) (e .shape .slots))))
 
   -- "A store number past its request's stores", in a submission that is under way, is none of these.
   pub by-strays : Decides (strays e records) ((e .work .busy ≡ true) × (OnCourse e records → ⊥))

@@ -2,7 +2,7 @@
 use Prim.Native.Nat.{ℕ, _+_, _-_, _^_, _<_}
 use mathlib.Core.Bool.{Bool, true, false, false≢true}
 use mathlib.Core.List.{List}
-use mathlib.Core.Logic.{inl, inr, ⊎-elim}
+use mathlib.Core.Logic.{inl, ⊎-elim}
 use mathlib.Core.Path.{_≡_, refl, sym, ap, _∙_}
 use native.Mathlib.Omega.{arith}
 use lib.Dec.{eqb}
@@ -77,7 +77,7 @@ module _ (e : Endpoint) (ring finished records packets : List ℕ) (request : Re
   pub started-storing : Storing (startedEndpoint e records request lengths) ring finished (startedRecords e records request lengths) (writePackets packets (recordTaken e) (request .what) lengths)
   unfolding startedEndpoint charged
   started-storing = record {
-    fits = record { limits = s .fits .endpoint .limits; place = inl place-low; first = inr place-low; next = after-some (idTaken e records) };
+    fits = record { limits = s .fits .endpoint .limits; place = inl place-low; next = after-some (idTaken e records) };
     records-size = records-length e records packets request lengths passed ∙ s .fits .size;
     ring-size = ring-size;
     finished-size = finished-size;
@@ -91,5 +91,6 @@ module _ (e : Endpoint) (ring finished records packets : List ℕ) (request : Re
       flying = ap (λ (v : Record). v .state) (record-written e records packets request lengths passed);
       counted = omega arith;
       more = ap isNone started-next;
+      first = λ late. place-low;
     };
   }

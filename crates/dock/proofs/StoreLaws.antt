@@ -20,9 +20,9 @@ use Rattle.finished.proofs.FinishedLaws.{cleared, others-kept}
 use Rattle.dock.specs.declared.Endpoint.{Endpoint}
 use Rattle.dock.specs.RowOne.{Next, theLink, theTrb, theFirst, none, nextOf, isNone}
 use Rattle.dock.specs.NextStore.{storeNo, store, firstCycle, stepped, slotStored, ringStored, finishedStored}
-use Rattle.dock.specs.Trbs.{trbOf, firstTrb, linkFor}
+use Rattle.dock.specs.Trbs.{trbOf, deferred, firstTrb, linkFor}
 use Rattle.dock.proofs.RefusalLaws.{store-acts}
-use Rattle.dock.proofs.StoreNextLaws.{Storing, store-admitted}
+use Rattle.dock.proofs.StoreNextLaws.{because, Storing, store-admitted}
 use Rattle.dock.proofs.RefusalTestLaws.{Fits}
 
 -- ---- one slot
@@ -51,12 +51,13 @@ ring-is theFirst e v packets ring some = refl
 ring-is none e v packets ring some = absurd (false≢true (sym some))
 
 -- Its slot is one of the L.
-slot-below : (n : Next) (e : Endpoint) → Fits e → e .work .busy ≡ true → isNone n ≡ false → slotStored n e < e .shape .slots
+slot-below : (n : Next) (e : Endpoint) (v : Record) → Fits e → (deferred v ≡ true → e .work .place + 1 < e .shape .slots) → nextOf e v ≡ n → isNone n ≡ false
+    → slotStored n e < e .shape .slots
 unfolding slotStored
-slot-below theLink e fit busy some = ⊎-elim (λ h. omega arith) (λ h. omega arith) (fit .place)
-slot-below theTrb e fit busy some = ⊎-elim (λ h. omega arith) (λ h. omega arith) (fit .place)
-slot-below theFirst e fit busy some = ⊎-elim (λ h. absurd (false≢true (sym h ∙ busy))) (λ h. omega arith) (fit .first)
-slot-below none e fit busy some = absurd (false≢true (sym some))
+slot-below theLink e v fit first next some = ⊎-elim (λ h. omega arith) (λ h. omega arith) (fit .place)
+slot-below theTrb e v fit first next some = ⊎-elim (λ h. omega arith) (λ h. omega arith) (fit .place)
+slot-below theFirst e v fit first next some = omega (arith, first (because e v theFirst next .1))
+slot-below none e v fit first next some = absurd (false≢true (sym some))
 
 -- The record of the submission under way, its next store, and the slot of that.
 abbrev pub flyingRecord : Endpoint → List ℕ → Record
@@ -89,7 +90,7 @@ module _ (e : Endpoint) (ring finished records packets : List ℕ) (passed : sto
   some = storing .course .more
 
   pub slot-is-one : slotChanged e records < e .shape .slots
-  slot-is-one = slot-below (nextStore e records) e (storing .fits) (storing .busy) some
+  slot-is-one = slot-below (nextStore e records) e (flyingRecord e records) (storing .fits) (storing .course .first) refl some
 
   room : 4 * slotChanged e records + 4 ≤ length ring
   room = let s = storing .ring-size in omega (arith, slot-is-one)

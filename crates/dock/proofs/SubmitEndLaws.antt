@@ -31,25 +31,22 @@ use Rattle.dock.specs.Submit.{afterStore, finish, mostStores, submit}
 use Rattle.dock.proofs.StoreNextLaws.{because, Storing, store-admits}
 use Rattle.dock.proofs.RefusalLaws.{submit-acts}
 use Rattle.dock.proofs.StartLaws.{start-admitted, record-written}
-use Rattle.dock.proofs.StartStoreLaws.{started-storing, started-count}
+use Rattle.dock.proofs.StartStoreLaws.{place-low, started-storing, started-count}
 use Rattle.dock.proofs.StoreStepLaws.{Kept, step-keeps, step-works, first-is-last, store-keeps, store-goes-on, store-ends}
 use Rattle.dock.proofs.StoreLaws.{flyingRecord, nextStore, steppedNext, lastStore, ring-length, finished-length}
-use Rattle.dock.proofs.RefusalTestLaws.{Fits}
 
 -- ---- from one store to the next
 
--- A submission whose first place is p stands at p and what is stored, or once the link is stored that much less the L-1 places; and so many stores are
+-- A submission whose first place is p, at most L-2, stands at p and what is stored, or once the link is stored that much less the L-1 places; and so many stores are
 -- enough for what is left of it.
 abbrev pub Enough : ℕ → Endpoint → ℕ → Type 0
 Enough fuel e count =
-    ((e .at .place ≡ e .work .place + e .work .stored) × (count + 2 ≤ fuel + e .work .stored))
-    ⊎ ((e .at .place + e .shape .slots ≡ e .work .place + e .work .stored + 1) × (count + 1 ≤ fuel + e .work .stored))
+    (e .work .place + 1 < e .shape .slots)
+    × (((e .at .place ≡ e .work .place + e .work .stored) × (count + 2 ≤ fuel + e .work .stored))
+    ⊎ ((e .at .place + e .shape .slots ≡ e .work .place + e .work .stored + 1) × (count + 1 ≤ fuel + e .work .stored)))
 
 not-none : (e : Endpoint) (v : Record) → nextOf e v ≡ none → isNone (nextOf e v) ≡ false → ⊥
 not-none e v q more = false≢true (sym more ∙ ap isNone q)
-
-pub first-low : (e : Endpoint) → Fits e → e .work .busy ≡ true → e .work .place + 1 < e .shape .slots
-first-low e fit busy = ⊎-elim (λ h. absurd (false≢true (sym h ∙ busy))) (λ (h : e .work .place + 1 < e .shape .slots). h) (fit .first)
 
 module _ (e : Endpoint) (ring finished records packets : List ℕ) (s : Storing e ring finished records packets) where
   -- A submission that goes on may store again.
@@ -61,7 +58,6 @@ module _ (e : Endpoint) (ring finished records packets : List ℕ) (s : Storing 
     fits = record {
       limits = s .fits .limits;
       place = inl (omega (arith, s .fits .limits .slots-least));
-      first = inr (first-low e (s .fits) (s .busy));
       next = s .fits .next;
     };
     records-size = s .records-size;
@@ -69,7 +65,7 @@ module _ (e : Endpoint) (ring finished records packets : List ℕ) (s : Storing 
     finished-size = places ∙ s .finished-size;
     packets-size = s .packets-size;
     busy = refl;
-    course = record { number = s .course .number; held = s .course .held; flying = s .course .flying; counted = s .course .counted; more = more };
+    course = record { number = s .course .number; held = s .course .held; flying = s .course .flying; counted = s .course .counted; more = more; first = s .course .first };
   }
   still theTrb q more ring′ finished′ rings places =
       let w = because e (flyingRecord e records) theTrb q in
@@ -83,7 +79,6 @@ module _ (e : Endpoint) (ring finished records packets : List ℕ) (s : Storing 
               (λ (h : e .at .place + 1 + 1 < e .shape .slots). inl h)
               (λ (h : e .shape .slots ≤ e .at .place + 1 + 1). inr ((omega arith, refl), omega arith))
               (lt-or-le (e .at .place + 1 + 1) (e .shape .slots));
-          first = inr (first-low e (s .fits) (s .busy));
           next = s .fits .next;
         };
         records-size = s .records-size;
@@ -91,7 +86,7 @@ module _ (e : Endpoint) (ring finished records packets : List ℕ) (s : Storing 
         finished-size = places ∙ s .finished-size;
         packets-size = s .packets-size;
         busy = refl;
-        course = record { number = s .course .number; held = s .course .held; flying = s .course .flying; counted = omega arith; more = more };
+        course = record { number = s .course .number; held = s .course .held; flying = s .course .flying; counted = omega arith; more = more; first = s .course .first };
       }
   still theFirst q more ring′ finished′ rings places =
       absurd (not-none (stepped theFirst e (flyingRecord e records) packets) (flyingRecord e records) (first-is-last e (flyingRecord e records) packets q) more)
@@ -104,16 +99,16 @@ module _ (e : Endpoint) (ring finished records packets : List ℕ) (s : Storing 
   unfolding stepped
   enough-less theLink q more fuel few enough =
       let w = because e (flyingRecord e records) theLink q in
-      let start = first-low e (s .fits) (s .busy) in
+      let start = enough .0 in
       let count = s .course .counted in
-      ⊎-elim (λ h. inr (omega arith, omega arith)) (λ h. absurd (omega arith)) enough
-  enough-less theTrb q more fuel few enough = ⊎-elim (λ h. inl (omega arith, omega arith)) (λ h. inr (omega arith, omega arith)) enough
+      (start, ⊎-elim (λ h. inr (omega arith, omega arith)) (λ h. absurd (omega arith)) (enough .1))
+  enough-less theTrb q more fuel few enough = (enough .0, ⊎-elim (λ h. inl (omega arith, omega arith)) (λ h. inr (omega arith, omega arith)) (enough .1))
   enough-less theFirst q more fuel few enough =
       absurd (not-none (stepped theFirst e (flyingRecord e records) packets) (flyingRecord e records) (first-is-last e (flyingRecord e records) packets q) more)
   enough-less none q more fuel few enough = absurd (not-none e (flyingRecord e records) q (s .course .more))
 
   never-out : Enough 0 e (trbCount (flyingRecord e records)) → ⊥
-  never-out enough = let count = s .course .counted in ⊎-elim (λ h. omega arith) (λ h. omega arith) enough
+  never-out enough = let count = s .course .counted in ⊎-elim (λ h. omega arith) (λ h. omega arith) (enough .1)
 
 -- ---- to the end
 
@@ -251,7 +246,7 @@ module _ (e : Endpoint) (ring finished records packets : List ℕ) (request : Re
       (finishes (mostStores request (length lengths)) begunWith ring finished written asked
       (started-storing e ring finished records packets request lengths passed ring-size finished-size)
       (omega arith)
-      (inl (omega arith, omega arith)))
+      (place-low e ring finished records packets request lengths passed ring-size finished-size, inl (omega arith, omega arith)))
 
   fit : (eqb (length ring) (ringSize (e .shape .slots)) && eqb (length finished) (ringSize (e .shape .slots))) ≡ true
   fit = if-so (both (by-eqb (length ring) (ringSize (e .shape .slots))) (by-eqb (length finished) (ringSize (e .shape .slots)))) (ring-size, finished-size)

@@ -5,7 +5,10 @@ use mathlib.Core.List.{List, [], _∷_}
 use lib.Dec.{eqb}
 use lib.ListN.{length}
 use Rattle.base.specs.First.{pick, first}
-use Rattle.ring.specs.Ring.{storeAt, onward, around}
+use Rattle.ring.specs.Ring.{cycleBy, positionBy, ringBy}
+use Rattle.ring.specs.declared.Manner.{Manner}
+use Rattle.ring.specs.declared.Manner.the-variants.{Onward, Around, Again}
+use Rattle.ring.specs.declared.Position.{Position}
 use Rattle.finished.specs.Finished.{clearPlace}
 use Rattle.sizes.specs.Sizes.{ringSize, packetsSize, isoch}
 use Rattle.records.specs.Records.{recordAt}
@@ -41,14 +44,22 @@ runOn e v packets =
 abbrev pub frameOn : Endpoint → Record → ℕ
 frameOn e v = pick (eqb (v .kind) isoch) (frameAfter (e .periodic .frame) (e .periodic .interval)) (e .periodic .frame)
 
--- The first TRB of a deferred TD goes out with the opposite cycle, the rest as usual.
+-- How the next TRB is stored: the first TRB of a deferred TD goes out with the opposite cycle, the rest as usual.
+abbrev pub mannerOf : Endpoint → Record → Manner
+mannerOf e v = Onward (deferred v && eqb (e .work .stored) 0)
+
 abbrev pub firstCycle : Endpoint → Record → Bool
-firstCycle e v = pick (deferred v && eqb (e .work .stored) 0) (not (e .at .cycle)) (e .at .cycle)
+firstCycle e v = cycleBy (mannerOf e v) (e .at .cycle)
+
+-- Where the first TRB of the submission under way stands.
+abbrev pub firstAt : Work → Position
+firstAt w = record { place = w .place; cycle = w .cycle }
 
 -- The endpoint after a store; "reaching L-1 it adds a second store, the link at L-1 with the old cycle, then place 0 and the cycle toggled".
 unfoldable pub stepped : Next → Endpoint → Record → List ℕ → Endpoint
-stepped theLink e v packets = withStore e (around (e .at)) (e .periodic .frame) (withStored (e .work) (e .work .stored) (e .work .address))
-stepped theTrb e v packets = withStore e (onward (e .at)) (frameOn e v) (withStored (e .work) (e .work .stored + 1) (runOn e v packets))
+stepped theLink e v packets = withStore e (positionBy Around (e .at)) (e .periodic .frame) (withStored (e .work) (e .work .stored) (e .work .address))
+stepped theTrb e v packets =
+    withStore e (positionBy (mannerOf e v) (e .at)) (frameOn e v) (withStored (e .work) (e .work .stored + 1) (runOn e v packets))
 stepped theFirst e v packets = withStore e (e .at) (e .periodic .frame) (withStored (e .work) (e .work .stored + 1) (e .work .address))
 stepped none e v packets = e
 
@@ -61,9 +72,9 @@ slotStored none e = 0
 
 -- the ring afterwards,
 unfoldable pub ringStored : Next → Endpoint → Record → List ℕ → List ℕ → List ℕ
-ringStored theLink e v packets ring = storeAt ring (e .at .place) (linkFor e v) (e .at .cycle)
-ringStored theTrb e v packets ring = storeAt ring (e .at .place) (trbOf e v packets (e .work .stored)) (firstCycle e v)
-ringStored theFirst e v packets ring = storeAt ring (e .work .place) (firstTrb e v packets) (e .work .cycle)
+ringStored theLink e v packets ring = ringBy Around ring (e .at) (linkFor e v)
+ringStored theTrb e v packets ring = ringBy (mannerOf e v) ring (e .at) (trbOf e v packets (e .work .stored))
+ringStored theFirst e v packets ring = ringBy Again ring (firstAt (e .work)) (firstTrb e v packets)
 ringStored none e v packets ring = ring
 
 -- and the finished table: "a TRB's first store clears it .. The link's store and a setup's second store clear nothing."

@@ -14,17 +14,15 @@ use Rattle.dock.specs.declared.Endpoint.{Endpoint}
 use Rattle.dock.specs.Limits.{limitsHold}
 use Rattle.dock.specs.Trbs.{trbCount, deferred}
 
--- "Place above L-2 except L-1 just before the link's store": with a submission under way of which a TRB is stored. The place of its first TRB is one too.
-unfoldable pub placesFit : Endpoint → Bool
-placesFit e =
-    (ltb (e .at .place + 1) (e .shape .slots) || (eqb (e .at .place + 1) (e .shape .slots) && e .work .busy && ltb 0 (e .work .stored)))
-    && (not (e .work .busy) || ltb (e .work .place + 1) (e .shape .slots))
+-- "Place above L-2 except L-1 just before the link's store": with a submission under way of which a TRB is stored.
+unfoldable pub placeFits : Endpoint → Bool
+placeFits e = ltb (e .at .place + 1) (e .shape .slots) || (eqb (e .at .place + 1) (e .shape .slots) && e .work .busy && ltb 0 (e .work .stored))
 
 -- "L, base, dci or slot id outside the above, place above L-2 .., next id 0": none of it.
 unfoldable pub fits : Endpoint → Bool
 fits e =
     limitsHold (e .shape) (e .who)
-    && placesFit e
+    && placeFits e
     && not (eqb (e .account .next) 0)
 
 -- What the next store of a submission is: the link where the place is L-1, else the next TRB, else for a deferred TD the first TRB again.
@@ -50,7 +48,12 @@ isNone none = true
 abbrev pub flies : List ℕ → Occupancy → ℕ → Bool
 flies records occupancy r = held occupancy r && eqb (recordAt records r .state) inFlight
 
--- "A store number past its request's stores": a submission under way whose record is no held one in flight, or whose stores are all made.
+-- The place of a submission's first TRB is one too, at most L-2, where a later store reads it: that of a deferred TD.
+abbrev pub firstFits : Endpoint → Record → Bool
+firstFits e v = not (deferred v) || ltb (e .work .place + 1) (e .shape .slots)
+
+-- "A store number past its request's stores": a submission under way whose record is no held one in flight, or whose stores are all made; or one whose first
+-- place does not fit.
 unfoldable pub strays : Endpoint → List ℕ → Bool
 strays e records =
     e .work .busy
@@ -58,7 +61,8 @@ strays e records =
     (ltb (e .work .number) recordCount
     && flies records (e .account .occupancy) (e .work .number)
     && leb (e .work .stored) (trbCount (recordAt records (e .work .number)))
-    && not (isNone (nextOf e (recordAt records (e .work .number)))))
+    && not (isNone (nextOf e (recordAt records (e .work .number))))
+    && firstFits e (recordAt records (e .work .number)))
 
 -- Row 1 of a call that is lent the records.
 unfoldable pub fitsWith : Endpoint → List ℕ → Bool

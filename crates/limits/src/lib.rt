@@ -1,10 +1,10 @@
 // The limits of a dock as tests on numbers: what making and row 1 of "When the dock says no" read. Every function takes any input.
 ghost use mathlib.Core.Path.{_≡_};
-ghost use Prim.Native.Nat.{_*_, _<_};
-ghost use lib.Dec.{eqb};
+ghost use mathlib.Core.Bool.{_&&_, _||_};
+ghost use Prim.Native.Nat.{_+_, _*_, _<_};
+ghost use lib.Dec.{eqb, ltb};
 ghost use Rattle.sizes.specs.Sizes.{ringSize};
 ghost use Rattle.dock.specs.Limits.{limitsHold};
-ghost use Rattle.limits.specs.Places.{placeFits, firstFits};
 use dock::Identity;
 use dock::Shape;
 
@@ -38,7 +38,7 @@ pub fn limits_hold(shape: Shape, who: Identity) -> bool
 
 // "Place above L-2 except L-1 just before the link's store": the place of the next store.
 pub fn stands(slots: usize, place: usize, busy: bool, stored: usize) -> bool
-    ensures { λ r. ⌜ r ≡ placeFits slots place busy stored ⌝ }
+    ensures { λ r. ⌜ r ≡ (ltb (place + 1) slots || (eqb (place + 1) slots && busy && ltb 0 stored)) ⌝ }
 {
     if slots == 0 {
         return false;
@@ -53,22 +53,6 @@ pub fn stands(slots: usize, place: usize, busy: bool, stored: usize) -> bool
         return false;
     }
     0 < stored
-}
-
-// The place of the first TRB of the submission under way.
-pub fn first_stands(slots: usize, busy: bool, place: usize) -> bool
-    ensures { λ r. ⌜ r ≡ firstFits slots busy place ⌝ }
-{
-    if !busy {
-        return true;
-    }
-    if slots == 0 {
-        return false;
-    }
-    if place < slots - 1 {
-        return true;
-    }
-    false
 }
 
 // A table of four words a slot has its size: the ring, the finished table.

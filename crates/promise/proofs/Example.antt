@@ -28,7 +28,7 @@ use Rattle.dock.specs.declared.What.{What}
 use Rattle.dock.specs.declared.What.the-variants.{Control, Bulk, Isoch}
 use Rattle.dock.specs.Cancel.{cancel, cancelNo, cancelTests}
 use Rattle.dock.specs.Configure.{configure, plainNo, plainTests}
-use Rattle.dock.specs.RowOne.{fits, placesFit, strays, fitsWith, nextOf}
+use Rattle.dock.specs.RowOne.{fits, placeFits, strays, fitsWith, nextOf}
 use Rattle.dock.specs.HandOver.{slotFor, foreign, handOverTests, handOverNo, handOver}
 use Rattle.dock.specs.Limits.{limitsHold}
 use Rattle.dock.specs.Make.{sized, makeTests, makeNo, make}
@@ -85,7 +85,7 @@ outset = fromMaking shape (madeOf (make (tables 20) (tables 20) (tables recordsS
 
 -- The world after the moves, and whether each of them may be made in its turn.
 ended : World × Bool
-unfolding outset allowed play admits isFor handed running.stepped does accepted cycle.cycleOf owned typeOf wordsOf wordsAt put putWords storeAt isSlot slotOf finishedAt fillPlace packetAt putPacket recordAt setWord masks.held masks.lowest masks.taken masks.freed freeId freeFrom heldBy any findFrom findId cancel cancelNo cancelTests configure plainNo plainTests fits placesFit strays fitsWith nextOf slotFor foreign handOverTests handOverNo handOver limitsHold leave mismatched completeTests complete placeOf reclaimBulk reclaimControl closeBelow total sweep reclaimIso reclaimTests reclaimNo reclaimFlying reclaim startNo startTests crowded tooLong beyond charged recordTaken idTaken startedEndpoint startedRecords writePackets start store storeNo storeTests stepped slotStored ringStored finishedStored settled storedAnswer trbOf trbCount burstsOf packetsOf worth counts deferred chained
+unfolding outset allowed play admits isFor handed running.stepped does accepted cycle.cycleOf owned typeOf wordsOf wordsAt put putWords storeAt isSlot slotOf finishedAt fillPlace packetAt putPacket recordAt setWord masks.held masks.lowest masks.taken masks.freed freeId freeFrom heldBy any findFrom findId cancel cancelNo cancelTests configure plainNo plainTests fits placeFits strays fitsWith nextOf slotFor foreign handOverTests handOverNo handOver limitsHold leave mismatched completeTests complete placeOf reclaimBulk reclaimControl closeBelow total sweep reclaimIso reclaimTests reclaimNo reclaimFlying reclaim startNo startTests crowded tooLong beyond charged recordTaken idTaken startedEndpoint startedRecords writePackets start store storeNo storeTests stepped slotStored ringStored finishedStored settled storedAnswer trbOf trbCount burstsOf packetsOf worth counts deferred chained
 ended = (play outset moves, allowed outset moves)
 
 all-allowed : allowed outset moves ≡ true

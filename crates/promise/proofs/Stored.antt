@@ -601,17 +601,14 @@ module _ (w : World) (h : Sound (w .dock)) (k : Kept w) where
       → Kept (withDock w (after (nextOf e v)))
   store-acted passed =
       let s = store-admitted e (w .dock .ring) (w .dock .finished) (w .dock .records) packets passed in
-      let low : e .work .place + 1 < e .shape .slots =
-      ⊎-elim (λ (q : e .work .busy ≡ false). absurd (false≢true (sym q ∙ s .busy)))
-      (λ (q : e .work .place + 1 < e .shape .slots). q) (s .fits .first) in
-      by (s .busy) low (k .under)
+      by (s .busy) (s .course .first) (k .under)
     where
-      by : e .work .busy ≡ true → e .work .place + 1 < e .shape .slots
+      by : e .work .busy ≡ true → (deferred v ≡ true → e .work .place + 1 < e .shape .slots)
           → Under (k .K) e (w .dock .records) packets (w .first (e .work .number)) (k .before) (k .work) → Kept (withDock w (after (nextOf e v)))
       by busy low (rests u) = absurd (false≢true (sym (u .free) ∙ busy))
       by busy low (opens u) = stored-open u
       by busy low (shows u) = stored-shown u
-      by busy low (hides u) = stored-hidden u low
+      by busy low (hides u) = stored-hidden u (low (u .late))
 
   pub stored-kept : Kept (act w (calls stores))
   stored-kept =

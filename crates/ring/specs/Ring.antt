@@ -8,7 +8,7 @@ use Rattle.trb.specs.Layouts.{wordsOf, putWords}
 use Rattle.trb.specs.declared.Trb.{Trb}
 use Rattle.trb.specs.declared.Trb.the-variants.{Link}
 use Rattle.ring.specs.declared.Manner.{Manner}
-use Rattle.ring.specs.declared.Manner.the-variants.{Usual, Deferred, Around}
+use Rattle.ring.specs.declared.Manner.the-variants.{Onward, Around, Again}
 use Rattle.ring.specs.declared.Position.{Position}
 use Rattle.ring.specs.declared.Pointer.{Pointer}
 use Rattle.ring.specs.declared.Slot.{Slot}
@@ -26,19 +26,22 @@ onward p = record { place = p .place + 1; cycle = p .cycle }
 abbrev pub around : Position → Position
 around p = record { place = 0; cycle = not (p .cycle) }
 
--- A store by its manner: its cycle bit, the position behind it, and both with the ring.
+-- A store by its manner: its cycle bit, the position behind it, the ring, and both.
 abbrev pub cycleBy : Manner → Bool → Bool
-cycleBy Usual cycle = cycle
-cycleBy Deferred cycle = not cycle
+cycleBy (Onward deferred) cycle = pick deferred (not cycle) cycle
 cycleBy Around cycle = cycle
+cycleBy Again cycle = cycle
 
 abbrev pub positionBy : Manner → Position → Position
-positionBy Usual p = onward p
-positionBy Deferred p = onward p
+positionBy (Onward deferred) p = onward p
 positionBy Around p = around p
+positionBy Again p = p
+
+abbrev pub ringBy : Manner → List ℕ → Position → Trb → List ℕ
+ringBy manner ring p trb = storeAt ring (p .place) trb (cycleBy manner (p .cycle))
 
 unfoldable pub storedBy : Manner → List ℕ → Position → Trb → Position × List ℕ
-storedBy manner ring p trb = (positionBy manner p, storeAt ring (p .place) trb (cycleBy manner (p .cycle)))
+storedBy manner ring p trb = (positionBy manner p, ringBy manner ring p trb)
 
 -- "A store puts a TRB at the place with the current cycle; the place rises."
 abbrev pub enqueTransfer : List ℕ → Position → Trb → Position × List ℕ
@@ -47,6 +50,10 @@ enqueTransfer ring p trb = (onward p, storeAt ring (p .place) trb (p .cycle))
 -- "A control TD stores its setup with the opposite cycle."
 abbrev pub enqueDeferred : List ℕ → Position → Trb → Position × List ℕ
 enqueDeferred ring p trb = (onward p, storeAt ring (p .place) trb (not (p .cycle)))
+
+-- ".. then the setup again with the right one": at the position that it was stored at.
+abbrev pub enqueAgain : List ℕ → Position → Trb → List ℕ
+enqueAgain ring p trb = storeAt ring (p .place) trb (p .cycle)
 
 -- The link of a ring at `base`: it leads to slot 0 and toggles the cycle there.
 abbrev pub linkTrb : ℕ → Bool → Trb

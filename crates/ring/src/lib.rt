@@ -10,7 +10,7 @@
 ghost use mathlib.Core.Path.{_≡_};
 ghost use Prim.Native.Nat.{_+_, _*_, _^_, _<_, _≤_};
 ghost use lib.ListN.{length};
-ghost use Rattle.ring.specs.Ring.{storeAt, cycleBy, positionBy, storedBy, enqueTransfer, enqueDeferred, nextIndex, slotAddress, enqueuePointer, slotOf};
+ghost use Rattle.ring.specs.Ring.{storeAt, cycleBy, positionBy, storedBy, enqueTransfer, enqueDeferred, enqueAgain, nextIndex, slotAddress, enqueuePointer, slotOf};
 use trb::Trb;
 
 // Where the next TRB goes, and the cycle bit that it gets.
@@ -19,9 +19,8 @@ pub struct Position {
     pub cycle: bool,
 }
 
-// One store: a TRB in a slot, with a cycle bit. By itself it is the second store of a TRB that was stored with the opposite cycle
-// (`set_transfer_trb` of the Rust).
-pub fn set_transfer_trb(ring: &mut [u32], place: usize, trb: Trb, cycle: bool)
+// A TRB's words in a slot, with a cycle bit. Every store comes here.
+fn set_transfer_trb(ring: &mut [u32], place: usize, trb: Trb, cycle: bool)
     requires { ⌜ 4 * place + 4 ≤ length (now ring) ⌝ }
     ensures { λ _. ⌜ now (ring .exit) ≡ storeAt (now (ring .entry)) place trb cycle ⌝ }
 {
@@ -29,11 +28,12 @@ pub fn set_transfer_trb(ring: &mut [u32], place: usize, trb: Trb, cycle: bool)
     encoding::encode(&mut ring[start..start + 4], trb, cycle);
 }
 
-// How a store is made: with the current cycle, after which the place rises; the same with the opposite cycle; or as the link's, at the last slot.
+// How a store is made: a TRB's, with the current cycle or, deferred, with the opposite one, after which the place rises; the link's, at the last
+// slot; or a deferred TRB's second one, with the right cycle, which moves nothing.
 pub enum Manner {
-    Usual,
-    Deferred,
+    Onward { deferred: bool },
     Around,
+    Again,
 }
 
 // The cycle bit of a store.
@@ -41,9 +41,14 @@ fn cycle_by(manner: Manner, cycle: bool) -> bool
     ensures { λ r. ⌜ r ≡ cycleBy manner cycle ⌝ }
 {
     match manner {
-        Manner::Usual => cycle,
-        Manner::Deferred => !cycle,
+        Manner::Onward { deferred } => {
+            if deferred {
+                return !cycle;
+            }
+            cycle
+        }
         Manner::Around => cycle,
+        Manner::Again => cycle,
     }
 }
 
@@ -55,11 +60,7 @@ fn position_by(manner: Manner, p: Position) -> Position
     let place = p.place;
     let cycle = p.cycle;
     match manner {
-        Manner::Usual => Position {
-            place: place + 1,
-            cycle,
-        },
-        Manner::Deferred => Position {
+        Manner::Onward { deferred } => Position {
             place: place + 1,
             cycle,
         },
@@ -67,6 +68,7 @@ fn position_by(manner: Manner, p: Position) -> Position
             place: 0,
             cycle: !cycle,
         },
+        Manner::Again => p,
     }
 }
 
@@ -89,7 +91,7 @@ pub fn step(p: &mut Position, ring: &mut [u32], trb: Trb, manner: Manner)
 }
 
 // The same for a caller that keeps the position by value.
-fn stored(ring: &mut [u32], p: Position, trb: Trb, manner: Manner) -> Position
+pub fn stored(ring: &mut [u32], p: Position, trb: Trb, manner: Manner) -> Position
     requires { ⌜ 4 * p .place + 4 ≤ length (now ring) ⌝ }
     ensures { λ r. ⌜ (r, now (ring .exit)) ≡ storedBy manner (now (ring .entry)) p trb ⌝ }
 {
@@ -103,7 +105,7 @@ pub fn enque_transfer(ring: &mut [u32], p: Position, trb: Trb) -> Position
     requires { ⌜ 4 * p .place + 4 ≤ length (now ring) ⌝ }
     ensures { λ r. ⌜ (r, now (ring .exit)) ≡ enqueTransfer (now (ring .entry)) p trb ⌝ }
 {
-    stored(ring, p, trb, Manner::Usual)
+    stored(ring, p, trb, Manner::Onward { deferred: false })
 }
 
 // The same with the opposite cycle: the controller does not take it yet.
@@ -111,7 +113,15 @@ pub fn enque_transfer_deferred_cycle(ring: &mut [u32], p: Position, trb: Trb) ->
     requires { ⌜ 4 * p .place + 4 ≤ length (now ring) ⌝ }
     ensures { λ r. ⌜ (r, now (ring .exit)) ≡ enqueDeferred (now (ring .entry)) p trb ⌝ }
 {
-    stored(ring, p, trb, Manner::Deferred)
+    stored(ring, p, trb, Manner::Onward { deferred: true })
+}
+
+// The TRB that was stored at this position with the opposite cycle, again, with the right one (where the Rust ends a TD with `set_transfer_trb`).
+pub fn enque_transfer_again(ring: &mut [u32], p: Position, trb: Trb)
+    requires { ⌜ 4 * p .place + 4 ≤ length (now ring) ⌝ }
+    ensures { λ _. ⌜ now (ring .exit) ≡ enqueAgain (now (ring .entry)) p trb ⌝ }
+{
+    stored(ring, p, trb, Manner::Again);
 }
 
 // The link at the place, which is the last slot, with the old cycle; then place 0 and the cycle toggled. `chain` says that a TD goes on behind it.

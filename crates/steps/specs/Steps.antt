@@ -2,7 +2,7 @@
 use Prim.Native.Nat.{ℕ, _+_, _%_, _^_}
 use lib.Dec.{eqb}
 use Rattle.base.specs.First.{pick}
-use Rattle.ring.specs.Ring.{onward}
+use Rattle.ring.specs.declared.Position.{Position}
 use Rattle.sizes.specs.Sizes.{isoch}
 use Rattle.records.specs.declared.Record.{Record}
 use Rattle.dock.specs.declared.Endpoint.{Endpoint}
@@ -16,9 +16,9 @@ use Rattle.dock.specs.NextStore.{withStored, frameOn, settled}
 abbrev pub runWith : Endpoint → Record → ℕ → ℕ
 runWith e v size = pick (eqb (v .kind) isoch) ((e .work .address + size) % 2 ^ 64) (e .work .address)
 
--- The endpoint after a TRB's store.
-unfoldable pub advancedBy : Endpoint → Record → ℕ → Endpoint
-advancedBy e v size = withStore e (onward (e .at)) (frameOn e v) (withStored (e .work) (e .work .stored + 1) (runWith e v size))
+-- The endpoint after a TRB's store, which left the producer at p.
+unfoldable pub advancedBy : Endpoint → Position → Record → ℕ → Endpoint
+advancedBy e p v size = withStore e p (frameOn e v) (withStored (e .work) (e .work .stored + 1) (runWith e v size))
 
 -- The answer of a store that changed a slot and left this endpoint.
 unfoldable pub concludedBy : Endpoint → Record → ℕ → StoredOne

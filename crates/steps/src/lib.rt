@@ -1,10 +1,10 @@
 // What one store changes of the endpoint, and its answer: functions on values, for the stores one by one and for the whole submission.
 ghost use mathlib.Core.Path.{_≡_};
-ghost use Prim.Native.Nat.{_+_, _≤_, _<_, max};
-ghost use Rattle.sizes.specs.Sizes.{mostSlots, packetCount};
+ghost use Prim.Native.Nat.{_≤_, _<_, max};
+ghost use Rattle.sizes.specs.Sizes.{packetCount};
 ghost use Rattle.dock.specs.State.{idle, withStore};
 ghost use Rattle.dock.specs.Trbs.{frameAfter};
-ghost use Rattle.dock.specs.NextStore.{withStored, frameOn, firstCycle};
+ghost use Rattle.dock.specs.NextStore.{withStored, frameOn, mannerOf};
 ghost use Rattle.steps.specs.Steps.{runWith, advancedBy, concludedBy};
 use checks::Next;
 use dock::Endpoint;
@@ -12,6 +12,7 @@ use dock::Stored;
 use dock::StoredOne;
 use dock::Work;
 use records::Record;
+use ring::Manner;
 use ring::Position;
 
 // No submission under way.
@@ -90,27 +91,22 @@ fn run_on(e: Endpoint, v: Record, size: u32) -> u64
 }
 
 // The first TRB of a deferred TD goes out with the opposite cycle, the rest as usual.
-pub fn first_cycle(e: Endpoint, v: Record) -> bool
-    ensures { λ r. ⌜ r ≡ firstCycle e v ⌝ }
+pub fn manner_of(e: Endpoint, v: Record) -> Manner
+    ensures { λ r. ⌜ r ≡ mannerOf e v ⌝ }
 {
     if !checks::is_deferred(v) {
-        return e.at.cycle;
+        return Manner::Onward { deferred: false };
     }
-    if e.work.stored != 0 {
-        return e.at.cycle;
+    Manner::Onward {
+        deferred: e.work.stored == 0,
     }
-    !e.at.cycle
 }
 
-// The endpoint after a TRB's store.
-pub fn advanced(e: Endpoint, v: Record, size: u32) -> Endpoint
-    requires { ⌜ (e .at .place + 1 ≤ mostSlots) × (e .work .stored ≤ packetCount) ⌝ }
-    ensures { λ r. ⌜ r ≡ advancedBy e v size ⌝ }
+// The endpoint after a TRB's store, which left the producer at p.
+pub fn advanced(e: Endpoint, p: Position, v: Record, size: u32) -> Endpoint
+    requires { ⌜ e .work .stored ≤ packetCount ⌝ }
+    ensures { λ r. ⌜ r ≡ advancedBy e p v size ⌝ }
 {
-    let p = Position {
-        place: e.at.place + 1,
-        cycle: e.at.cycle,
-    };
     let frame = frame_on(e, v);
     let address = run_on(e, v, size);
     let w = e.work;

@@ -1,12 +1,12 @@
 -- A store: its tests as facts, and its parts as the code makes them. Assumes nothing.
-use Prim.Native.Nat.{ℕ}
-use mathlib.Core.Bool.{true, _&&_, and-eq-true-iff}
+use Prim.Native.Nat.{ℕ, _+_, _<_}
+use mathlib.Core.Bool.{Bool, true, false, _&&_, and-eq-true-iff}
 use mathlib.Core.List.{List}
-use mathlib.Core.Path.{_≡_, refl}
+use mathlib.Core.Path.{_≡_, refl, sym, ap, subst, _∙_}
 use native.Mathlib.Omega.{arith}
 use borrow.Author.Tests.{eqb-true, not-false}
 use lib.Dec.{eqb}
-use lib.ListN.{length}
+use Rattle.base.specs.First.{pick}
 use Rattle.base.proofs.Chosen.{quiet}
 use Rattle.records.specs.Records.{recordAt}
 use Rattle.records.specs.declared.Record.{Record}
@@ -18,15 +18,19 @@ use Rattle.dock.specs.declared.Endpoint.{Endpoint}
 use Rattle.dock.specs.declared.StoredOne.{StoredOne}
 use Rattle.checks.proofs.Laws.{fit, fit-with, count-most}
 use Rattle.dock.proofs.RefusalTestLaws.{on-course}
-use Rattle.storing.specs.Ready.{Ready}
+use Rattle.storing.specs.Ready.{Ready, firstRead}
 use Rattle.trbs.specs.Trbs.{controlTrb, trbWith}
 use Rattle.trbs.proofs.FirstLaws.{first-of}
 use Rattle.steps.specs.Steps.{advancedBy, concludedBy}
 use Rattle.storing.specs.Stored.{linkBy, trbBy, firstBy, storedWith}
 
+first-below : (late : Bool) (place slots : ℕ) → (late ≡ true → place + 1 < slots) → 1 < slots → pick late place 0 + 1 < slots
+first-below true place slots first some = first refl
+first-below false place slots first some = some
+
 -- Where no test holds, a store has what it needs.
 pub ready : (e : Endpoint) (ring finished : ℕ) (records : List ℕ) (packets : ℕ) → storeNo e ring finished records packets ≡ 0
-    → Ready e ring finished (length records) packets
+    → Ready e ring finished records packets
 unfolding storeNo storeTests
 ready e ring finished records packets t =
     let ts = storeTests e ring finished records packets in
@@ -45,7 +49,7 @@ ready e ring finished records packets t =
         least = limits .slots-least;
         most = limits .slots-most;
         table = eqb-true _ _ (three .1);
-        place = sound .places .first busy;
+        place = first-below (deferred (recordAt records (e .work .number))) _ _ (way .first) (omega (arith, limits .slots-least));
         held = way .number;
       },
       eqb-true _ _ (two .1),
@@ -54,6 +58,11 @@ ready e ring finished records packets t =
       sound .places .here,
       let s = way .counted in omega (arith, count-most (recordAt records (e .work .number))),
     )
+
+-- The first place is read where the TD is deferred.
+pub first-low : (e : Endpoint) (records : List ℕ) (v : Record) → v ≡ recordAt records (e .work .number) → deferred v ≡ true
+    → firstRead e records + 1 < e .shape .slots → e .work .place + 1 < e .shape .slots
+first-low e records v is late low = subst (λ (b : Bool). pick b (e .work .place) 0 + 1 < e .shape .slots) (ap deferred (sym is) ∙ late) low
 
 -- ---- what each store leaves
 

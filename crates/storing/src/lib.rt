@@ -6,7 +6,7 @@ ghost use mathlib.Core.Bool.{not, _&&_};
 ghost use Prim.Native.Nat.{_+_, _*_, _≤_, _<_};
 ghost use lib.Dec.{eqb};
 ghost use lib.ListN.{length};
-ghost use Rattle.sizes.specs.Sizes.{mostSlots, ringSize, packetCount, packetsSize};
+ghost use Rattle.sizes.specs.Sizes.{ringSize, packetCount, packetsSize};
 ghost use Rattle.dock.specs.RowOne.{fitsWith};
 ghost use Rattle.dock.specs.NextStore.{storeNo};
 ghost use Rattle.storing.specs.Ready.{Ready};
@@ -15,6 +15,7 @@ use checks::Next;
 use dock::Endpoint;
 use dock::StoredOne;
 use records::Record;
+use ring::Position;
 
 // Row 1: the endpoint, its records and the other tables fit.
 fn is_unfit(e: Endpoint, ring: usize, finished: usize, records: &[u64], packets: usize) -> bool
@@ -60,14 +61,15 @@ fn store_link(e: Endpoint, v: Record, ring: &mut [u32]) -> StoredOne
 
 // A TRB's store: "a TRB's first store clears" its place.
 fn store_trb(e: Endpoint, v: Record, size: u32, ring: &mut [u32], finished: &mut [u32]) -> StoredOne
-    requires { ⌜ (4 * e .at .place + 4 ≤ length (now ring)) × (4 * e .at .place + 4 ≤ length (now finished)) × (e .at .place + 1 ≤ mostSlots) × (e .work .stored ≤ packetCount) × (0 < e .shape .slots) ⌝ }
+    requires { ⌜ (4 * e .at .place + 4 ≤ length (now ring)) × (4 * e .at .place + 4 ≤ length (now finished)) × (e .work .stored ≤ packetCount) × (0 < e .shape .slots) ⌝ }
     ensures { λ r. ⌜ (r, now (ring .exit), now (finished .exit)) ≡ trbBy e v size (now (ring .entry)) (now (finished .entry)) ⌝ }
 {
-    let place = e.at.place;
+    let p = e.at;
+    let place = p.place;
     let trb = trbs::trb_of(e, v, size, e.work.stored);
-    ring::set_transfer_trb(ring, place, trb, steps::first_cycle(e, v));
+    let q = ring::stored(ring, p, trb, steps::manner_of(e, v));
     finished::clear_finished(finished, place);
-    steps::concluded(steps::advanced(e, v, size), v, place)
+    steps::concluded(steps::advanced(e, q, v, size), v, place)
 }
 
 // The first TRB's second store, with the right cycle.
@@ -77,15 +79,18 @@ fn store_first(e: Endpoint, v: Record, ring: &mut [u32]) -> StoredOne
 {
     let p = e.at;
     let w = e.work;
-    let place = w.place;
-    ring::set_transfer_trb(ring, place, trbs::first_trb(v), w.cycle);
+    let first = Position {
+        place: w.place,
+        cycle: w.cycle,
+    };
+    ring::enque_transfer_again(ring, first, trbs::first_trb(v));
     let after = steps::with_store(
         e,
         p,
         e.periodic.frame,
         steps::with_stored(w, w.stored + 1, w.address),
     );
-    steps::concluded(after, v, place)
+    steps::concluded(after, v, first.place)
 }
 
 // The store that is next.
@@ -96,7 +101,7 @@ pub fn store_one(
     records: &[u64],
     packets: &[u64],
 ) -> StoredOne
-    requires { ⌜ Ready e (length (now ring)) (length (now finished)) (length (now records)) (length (now packets)) ⌝ }
+    requires { ⌜ Ready e (length (now ring)) (length (now finished)) (now records) (length (now packets)) ⌝ }
     ensures { λ r. ⌜ (r, now (ring .exit), now (finished .exit)) ≡ storedBy e (now (ring .entry)) (now (finished .entry)) (now (records .entry)) (now (packets .entry)) ⌝ }
 {
     let number = e.work.number;

@@ -6,7 +6,8 @@ use lib.Dec.{eqb}
 use lib.ListN.{length}
 use Rattle.base.specs.First.{pick}
 use Rattle.trb.specs.declared.Trb.{Trb}
-use Rattle.ring.specs.Ring.{storeAt}
+use Rattle.ring.specs.Ring.{ringBy}
+use Rattle.ring.specs.declared.Manner.the-variants.{Again}
 use Rattle.ring.specs.declared.Position.{Position}
 use Rattle.records.specs.declared.Record.{Record}
 use Rattle.dock.specs.declared.Shape.{Shape}
@@ -26,4 +27,4 @@ stagesPut shape chain v s =
 unfoldable pub deferredPut : Shape → Bool → Position → Record → List ℕ → List ℕ → Position × List ℕ × List ℕ
 deferredPut shape chain p v ring finished =
     let s = stagesPut shape chain v (putTrb shape chain p (firstOf v) (not (p .cycle)) ring finished) in
-    (s .0, storeAt (s .1) (p .place) (firstOf v) (p .cycle), s .2)
+    (s .0, ringBy Again (s .1) p (firstOf v), s .2)

@@ -6,7 +6,8 @@ use mathlib.Core.List.{List}
 use lib.Dec.{eqb}
 use Rattle.base.specs.First.{pick}
 use Rattle.trb.specs.declared.Trb.{Trb}
-use Rattle.ring.specs.Ring.{storeAt, onward, around, linkTrb}
+use Rattle.ring.specs.Ring.{storeAt, onward, positionBy, ringBy, linkTrb}
+use Rattle.ring.specs.declared.Manner.the-variants.{Around, Again}
 use Rattle.ring.specs.declared.Position.{Position}
 use Rattle.finished.specs.Finished.{clearPlace}
 use Rattle.records.specs.declared.Record.{Record}
@@ -15,16 +16,16 @@ use Rattle.dock.specs.declared.Shape.{Shape}
 use Rattle.dock.specs.declared.StoredAll.{StoredAll}
 use Rattle.dock.specs.declared.Submitted.the-variants.{Done}
 use Rattle.dock.specs.State.{idle, withStore}
-use Rattle.dock.specs.NextStore.{withStored, runOn, frameOn, firstCycle}
+use Rattle.dock.specs.NextStore.{withStored, runOn, frameOn, firstCycle, firstAt}
 use Rattle.dock.specs.Trbs.{trbOf, deferred, firstTrb, chained}
 
 -- "Reaching L-1 it adds a second store, the link at L-1 with the old cycle, then place 0 and the cycle toggled": the position,
 abbrev pub linked : ℕ → Position → Position
-linked slots p = pick (eqb (p .place + 1) slots) (around p) p
+linked slots p = pick (eqb (p .place + 1) slots) (positionBy Around p) p
 
 -- and the ring, with the link chained or not.
 abbrev pub linkedRing : Shape → Bool → Position → List ℕ → List ℕ
-linkedRing shape chain p ring = pick (eqb (p .place + 1) (shape .slots)) (storeAt ring (p .place) (linkTrb (shape .base) chain) (p .cycle)) ring
+linkedRing shape chain p ring = pick (eqb (p .place + 1) (shape .slots)) (ringBy Around ring p (linkTrb (shape .base) chain)) ring
 
 unfoldable pub linkOn : Shape → Bool → Position → List ℕ → Position × List ℕ
 linkOn shape chain p ring = (linked (shape .slots) p, linkedRing shape chain p ring)
@@ -52,6 +53,6 @@ strides (suc n) e v packets ring finished =
 unfoldable pub closed : Record → List ℕ → Endpoint × List ℕ × List ℕ → StoredAll × List ℕ × List ℕ
 closed v packets s = (
   record { answer = Done (v .id) (s .0 .who .dci); endpoint = withStore (s .0) (s .0 .at) (s .0 .periodic .frame) idle },
-  pick (deferred v) (storeAt (s .1) (s .0 .work .place) (firstTrb (s .0) v packets) (s .0 .work .cycle)) (s .1),
+  pick (deferred v) (ringBy Again (s .1) (firstAt (s .0 .work)) (firstTrb (s .0) v packets)) (s .1),
   s .2,
 )

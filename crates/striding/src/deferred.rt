@@ -42,6 +42,6 @@ pub fn put_deferred_td(
     let first = trbs::first_trb(v);
     let q = put::put_deferred(ring, finished, shape, chain, p, first);
     let end = put_stages(ring, finished, shape, chain, q, v);
-    ring::set_transfer_trb(ring, p.place, first, p.cycle);
+    ring::enque_transfer_again(ring, p, first);
     end
 }

@@ -12,9 +12,9 @@ concluded-requires c κs =
 returns : tie.Need-returns
 unfolding firstBy
 returns c =
-    let at-set-transfer-trb = c .before .before .before .before .before .before in
-    let at-first-trb = at-set-transfer-trb .before in
-    simp (c .concluded .ensures, c .before .with-store .ensures, c .before .before .with-stored .ensures, at-set-transfer-trb .set-transfer-trb .ensures, at-first-trb .first-trb .ensures)
+    let at-again = c .before .before .before .before .before .before in
+    let at-first-trb = at-again .before in
+    simp (c .concluded .ensures, c .before .with-store .ensures, c .before .before .with-stored .ensures, at-again .enque-transfer-again .ensures, at-first-trb .first-trb .ensures)
 
 pub store-first-spec : {M : Type 1} → statement M
 store-first-spec =

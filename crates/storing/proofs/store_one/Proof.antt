@@ -11,7 +11,7 @@ use Rattle.dock.proofs.StoreNextLaws.{because}
 use Rattle.dock.specs.declared.StoredOne.{StoredOne}
 use Rattle.packets.specs.declared.Packet.{Packet}
 use Rattle.storing.specs.Stored.{trbBy, storedBy}
-use Rattle.storing.proofs.StoreLaws.{link-stored, trb-stored, first-stored, none-stored}
+use Rattle.storing.proofs.StoreLaws.{first-low, link-stored, trb-stored, first-stored, none-stored}
 use borrow.Author.Needs.{needs}
 use Rattle.storing.proofs.store_one.Statement.{statement}
 use Rattle.storing.proofs.store_one.Tie as tie
@@ -24,6 +24,18 @@ packet-at-requires c κs =
 
 store-trb-requires : tie.Need-store-trb-requires
 store-trb-requires c κs = let k = c .before .before .before .before .before .before .before .before .before .before .before .pre in omega arith
+
+store-first-requires : tie.Need-store-first-requires
+store-first-requires c κs =
+    let at-next-of = c .before .before .before in
+    let at-record-at = at-next-of .before in
+    let at-start = at-record-at .before .before .before .before .before in
+    let a = at-start .args in
+    let v = at-record-at .record-at .result in
+    let next = sym (at-next-of .next-of .ensures) ∙ ap named (c .before .enum-told3 .given .1) in
+    let k = at-start .pre in
+    let low = first-low (a .e) (now (a .records)) v (at-record-at .record-at .ensures) (because (a .e) v theFirst next .1) (k .0 .place) in
+    omega arith
 
 returns : tie.Need-returns
 unfolding storedBy
@@ -91,7 +103,7 @@ store-one-spec =
     packet-at-requires
     store-trb-requires
     (λ c. search needs)
-    (λ c κs. search needs)
+    store-first-requires
     (λ c. search needs)
     (λ c κs. search needs)
     (λ c. search needs)

@@ -13,7 +13,7 @@ returns c =
     let at-start = at-first-trb .before .before .before in
     let a = at-start .args in
     deferred-is (a .shape) (a .chain) (a .p) (a .v) (now (a .ring)) (now (a .finished)) (at-first-trb .first-trb .ensures) (at-put-deferred .put-deferred .ensures .0)
-    (at-put-stages .put-stages .ensures) (c .before .before .set-transfer-trb .ensures)
+    (at-put-stages .put-stages .ensures) (c .before .before .enque-transfer-again .ensures)
 
 pub put-deferred-td-spec : {M : Type 1} → statement M
 put-deferred-td-spec =
