@@ -1,4 +1,5 @@
 -- The laws of the definitions, the states that are reached from making, and the readings from the bench.
+pub mod AnsweredLaws
 pub mod Reached
 pub mod ReachedBookLaws
 pub mod ReachedFitLaws
@@ -17,6 +18,7 @@ pub mod ReclaimResidualLaws
 pub mod ReclaimSettleLaws
 pub mod RefusalAnswerLaws
 pub mod RefusalLaws
+pub mod RefusalRequestLaws
 pub mod RefusalRowLaws
 pub mod RefusalTestLaws
 pub mod RetireLaws

@@ -19,3 +19,4 @@ pub mod Reset
 pub mod Commands
 pub mod Numbers
 pub mod Run
+pub mod Tests
