@@ -1,10 +1,11 @@
 -- Every call in any state, reached or not, forged or not, answers what document 01's rows say, number and values (`answered-is`): so its number is 0 exactly
 -- where none of its tests holds, and else that of the first test that does (`answered-exact`). Assumes nothing.
 use Prim.Native.Nat.{ℕ}
-use mathlib.Core.Bool.{Bool, true, false, not, _&&_, _||_}
-use mathlib.Core.List.{List, [], _∷_, _++_}
+use mathlib.Core.Bool.{Bool, true, false, _&&_, _||_}
+use mathlib.Core.List.{List, [], _∷_}
 use mathlib.Core.Logic.{⊎-elim}
 use mathlib.Core.Path.{_≡_, refl, sym, ap, _∙_, subst}
+use borrow.Author.Tests.{eq-eqb, ne-eqb}
 use lib.Dec.{eqb, ltb}
 use lib.ListN.{length}
 use Rattle.base.specs.Fields.{flag}
@@ -27,7 +28,6 @@ use Rattle.dock.specs.declared.Identity.{Identity}
 use Rattle.dock.specs.declared.ReclaimedOne.{ReclaimedOne}
 use Rattle.dock.specs.declared.Shape.{Shape}
 use Rattle.dock.specs.declared.Stored.the-variants.{Slot, Last}
-use Rattle.dock.specs.declared.Submitted.{Submitted}
 use Rattle.dock.specs.RowOne.{nextOf, isNone}
 use Rattle.dock.specs.Make.{makeTests, makeNo, make}
 use Rattle.dock.specs.Configure.{plainTests, plainNo}
@@ -36,15 +36,16 @@ use Rattle.dock.specs.NextStore.{storeTests, storeNo, storedAnswer, step
 use Rattle.dock.specs.Submit.{submitTests, submitNo}
 use Rattle.dock.specs.HandOver.{handOverTests, handOverNo}
 use Rattle.dock.specs.Worth.{accepted}
-use Rattle.dock.specs.Reclaim.{mismatched, completeTests, completeAnswer, complete, nothing, codeOf, bulkBy, reclaimBulk, Seen, onward, ends, stageBy, statusBy, recordedLength, recordedBy, statusPlace, dataSeen, afterStage, reclaimControl, total, Swept, unfinished, fatal, found, sweep, sweptAnswer, reclaimIso, reclaimTests, reclaimNo, reclaimFlying, reclaimFound}
+use Rattle.dock.specs.Reclaim.{mismatched, completeTests, completeAnswer, complete, nothing, codeOf, bulkBy, reclaimBulk, onward, ends, stageBy, statusBy, recordedLength, recordedBy, statusPlace, dataSeen, afterStage, reclaimControl, total, Swept, unfinished, fatal, found, sweep, sweptAnswer, reclaimIso, reclaimTests, reclaimNo, reclaimFlying, reclaimFound}
 use Rattle.dock.specs.Cancel.{cancelTests, cancelNo}
 use Rattle.dock.specs.Retire.{recordTests, recordNo}
 use Rattle.dock.specs.Reset.{beginTests, beginNo, endTests, endNo}
 use Rattle.dock.specs.Numbers.{Numbered, outcomeNumber, storedNumber, submittedNumber, takenNumber, reclaimedNumber, resettingNumber, commandNumber, pointedNumber}
 use Rattle.dock.specs.Run.{State, Call, configures, starts, stores, submits, hands, reclaims, cancels, retires, begins, stops, resumes, points, answered}
 use Rattle.dock.specs.Run as calls
-use Rattle.dock.specs.Tests.{Ending, going, endedBy, bulkEnding, statusEnding, stageEnding, sweptEnding, endingOf, Came, nowhere, toStop, toEnd, cameBy, cameOf, cameTo, cameTests, cameValues, tests, ifDone, valuesOf, said}
-use Rattle.dock.proofs.RefusalLaws.{make-refuses, make-acts, configure-acts, stop-acts, resume-acts, pointer-acts, end-acts, start-acts, store-acts, submit-passed, hand-over-acts, cancel-acts, retire-acts, begin-clear, begin-acts, reclaim-acts}
+use Rattle.dock.specs.Tests.{Ending, going, endedBy, bulkEnding, statusEnding, stageEnding, sweptEnding, endingOf, Came, nowhere, toStop, toEnd, cameBy, cameOf, cameTo, cameTests, cameValues, tests, ifDone, said}
+use Rattle.dock.proofs.RefusalLaws.{make-acts, configure-acts, stop-acts, resume-acts, pointer-acts, end-acts, start-acts, store-acts, submit-passed, hand-over-acts, cancel-acts, retire-acts, begin-clear, begin-acts, reclaim-acts}
+use Rattle.dock.proofs.RefusalRequestLaws.{Named, named-found, unnamed-none}
 use Rattle.dock.proofs.RefusalAnswerLaws.{refused-leaves, making-leaves}
 use Rattle.dock.proofs.SubmitEndLaws.{submit-done}
 
@@ -86,7 +87,8 @@ complete-said e v number code fails size = by-tests (v .cancelled) (mismatched v
 -- ---- a request in flight is ended as its events tell
 
 module _ (e : Endpoint) (v : Record) (number : ℕ) where
-  abbrev ended : Ending → ReclaimedOne
+  -- The answer and the endpoint that an ending makes.
+  abbrev pub ended : Ending → ReclaimedOne
   ended going = nothing e
   ended (endedBy code fails size) = complete e v number code fails size
 
@@ -137,7 +139,8 @@ module _ (s : State) where
       (by-kind e v number (eqb (v .kind) isoch) _ _ _ _ (swept-ends e v number (swept .0) (swept .1))
       (by-kind e v number (eqb (v .kind) bulk || eqb (v .kind) interrupt) _ _ _ _ (bulk-ends e v number (finishedAt (s .finished) (v .place))) refl))
 
-  by-state : (b : Bool) (x y : ReclaimedOne × List ℕ × List ℕ) (p q : Came) → reclaimedNumber (x .0 .answer) ≡ saidOf p → reclaimedNumber (y .0 .answer) ≡ saidOf q
+  by-state : (b : Bool) (x y : ReclaimedOne × List ℕ × List ℕ) (p q : Came)
+      → reclaimedNumber (x .0 .answer) ≡ saidOf p → reclaimedNumber (y .0 .answer) ≡ saidOf q
       → reclaimedNumber (pick b x y .0 .answer) ≡ saidOf (pick b p q)
   by-state true x y p q t u = t
   by-state false x y p q t u = u
@@ -191,6 +194,37 @@ module _ (s : State) where
 
     reclaim-is : answered s (reclaims id) ≡ said s (reclaims id)
     reclaim-is = ⊎-elim (λ (z : refusedNo ≡ 0). reclaim-done z) (λ (d : refusedNo ≡ 0 → ⊥). reclaim-refused d) (same-or-not refusedNo 0)
+
+-- ---- what an id has come to, by the record that it names
+
+module _ (s : State) (id : ℕ) where
+  abbrev Names : ℕ → Type 0
+  Names r = Named (s .records) (s .endpoint .account .occupancy) id r
+
+  -- "An unknown id": no held record has it.
+  pub came-unknown : ((r : ℕ) → Names r → ⊥) → cameTo s id ≡ nowhere
+  unfolding cameTo
+  came-unknown none = ap (cameOf s) (unnamed-none (s .records) (s .endpoint .account .occupancy) id none)
+
+  module _ (r : ℕ) (names : Names r) where
+    abbrev its : Record
+    its = recordAt (s .records) r
+
+    at-record : cameTo s id ≡ cameOf s (At r)
+    unfolding cameTo
+    at-record = ap (cameOf s) (named-found (s .records) (s .endpoint .account .occupancy) id r names)
+
+    -- A stopped one;
+    pub came-stopped : its .state ≡ stopped → cameTo s id ≡ toStop
+    came-stopped is = at-record ∙ rw (eq-eqb (its .state) stopped is)
+
+    -- one in flight, which its events end or do not;
+    pub came-flying : its .state ≡ inFlight → cameTo s id ≡ cameBy (endingOf s its r) its
+    came-flying flies = at-record ∙ rw flies
+
+    -- and one that is neither.
+    pub came-neither : (its .state ≡ stopped → ⊥) → (its .state ≡ inFlight → ⊥) → cameTo s id ≡ nowhere
+    came-neither moves lands = at-record ∙ rw (ne-eqb (its .state) stopped moves, ne-eqb (its .state) inFlight lands)
 
 -- ---- every call
 

@@ -14,6 +14,7 @@ pub mod ReclaimLeaveLaws
 pub mod ReclaimLengthLaws
 pub mod ReclaimNeedLaws
 pub mod ReclaimOnceLaws
+pub mod ReclaimPacketLaws
 pub mod ReclaimResidualLaws
 pub mod ReclaimSettleLaws
 pub mod RefusalAnswerLaws

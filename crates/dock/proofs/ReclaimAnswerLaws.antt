@@ -193,6 +193,15 @@ module _ (e : Endpoint) (v : Record) (number : ℕ) where
       (true-or-false (mismatched v)))
       (true-or-false (v .cancelled))
 
+  -- Nor is one whose packets differ.
+  pub differs-not-done : (code : ℕ) (fails : Bool) (size : ℕ) (c : Completion) → mismatched v ≡ true
+      → complete e v number code fails size .answer ≡ answer.Done c → ⊥
+  differs-not-done code fails size c m d =
+      ⊎-elim
+      (λ (t : v .cancelled ≡ true). let was = answers-cancelled e v number code fails size t in let z : _≡_ {A = ℕ} 0 1 = cc in omega arith)
+      (λ (t : v .cancelled ≡ false). let was = answers-mismatch e v number code fails size t m in let z : _≡_ {A = ℕ} 0 1 = cc in omega arith)
+      (true-or-false (v .cancelled))
+
   swept-by : (s : Swept) (packets : List ℕ) (c : Completion) → sweptAnswer s e v number packets .answer ≡ answer.Done c
       → c .length ≡ sum (v .count) (λ (k : ℕ). packetAt packets number k .actual)
   swept-by unfinished packets c d = absurd (never-done e v number c d)

@@ -1,7 +1,7 @@
--- What the tests on a request's record decide, as facts on numbers: an id that is not in flight (6), a record that a reclaim cannot use (1), requests that keep a
--- reset waiting (2), packets that differ (9), the codes; and row 1 of the calls that are lent tables, by their sizes. Assumes nothing.
+-- What the tests on a request's record decide, as facts on numbers: an id that is not in flight (6), a record that a reclaim cannot use (1), requests that
+-- keep a reset waiting (2), packets that differ (9), the codes; and row 1 of the calls that are lent tables, by their sizes. Assumes nothing.
 use Prim.Native.Nat.{ℕ, _+_, _<_, _≤_}
-use mathlib.Core.Bool.{Bool, true, false, not, _&&_, false≢true}
+use mathlib.Core.Bool.{Bool, true, false, not, _&&_}
 use mathlib.Core.List.{List}
 use mathlib.Core.Logic.{_⊎_}
 use mathlib.Core.Path.{_≡_, refl, sym, subst, _∙_}
@@ -14,8 +14,8 @@ use Rattle.ids.specs.Free.{any, heldBy, idAt}
 use Rattle.ids.specs.Lookup.{Lowest, Finds, findIn}
 use Rattle.ids.specs.declared.Lookup.{Lookup}
 use Rattle.ids.specs.declared.Lookup.the-variants.{At, Nothing}
-use Rattle.ids.proofs.AnyLaws.{never-both, any-one, any-found, any-false, by-held}
-use Rattle.ids.proofs.LookupLaws.{find-finds, find-unique}
+use Rattle.ids.proofs.AnyLaws.{never-both, any-one, any-found, by-held}
+use Rattle.ids.proofs.LookupLaws.{find-finds, find-unique, find-computed}
 use Rattle.records.specs.Records.{inFlight, recordAt}
 use Rattle.records.specs.declared.Record.{Record}
 use Rattle.records.proofs.RecordLaws.{id-is}
@@ -55,6 +55,16 @@ module _ (records : List ℕ) (occupancy : Occupancy) (id : ℕ) where
     here = if-so (by-named r) (n .holds, n .has);
     lower = λ k less. if-not (by-named k) (λ h. n .lower k less (h .0) (h .1));
   }
+
+  pub named-found : (r : ℕ) → Named records occupancy id r → findIn records occupancy id ≡ At r
+  named-found r n = sym (find-computed recordCount (held occupancy) (idAt records) id (At r) (from-named r n))
+
+  none-by : (f : Lookup) → Finds recordCount named f → ((r : ℕ) → Named records occupancy id r → ⊥) → f ≡ Nothing
+  none-by Nothing f n = refl
+  none-by (At r) f n = absurd (n r (to-named r f))
+
+  pub unnamed-none : ((r : ℕ) → Named records occupancy id r → ⊥) → findIn records occupancy id ≡ Nothing
+  unnamed-none = none-by (findIn records occupancy id) (find-finds recordCount (held occupancy) (idAt records) id)
 
   -- Some fact holds of the record that the id names: of the one that is found, and of none where none is.
   abbrev pub OfNamed : (ℕ → Type 0) → Type 0
@@ -141,7 +151,9 @@ pub by-counts : (code : ℕ)
     → Decides (counts code) (((((((code ≡ 1) ⊎ (code ≡ 3)) ⊎ (code ≡ 4)) ⊎ (code ≡ 13)) ⊎ (code ≡ 23)) ⊎ (code ≡ 26)) ⊎ (code ≡ 31))
 unfolding counts
 by-counts code =
-    either (either (either (either (either (either (by-eqb code 1) (by-eqb code 3)) (by-eqb code 4)) (by-eqb code 13)) (by-eqb code 23)) (by-eqb code 26)) (by-eqb code 31)
+    either
+    (either (either (either (either (either (by-eqb code 1) (by-eqb code 3)) (by-eqb code 4)) (by-eqb code 13)) (by-eqb code 23)) (by-eqb code 26))
+    (by-eqb code 31)
 
 -- ---- row 1 of the calls that are lent tables: the endpoint, the records and the sizes
 
@@ -159,7 +171,8 @@ module _ (e : Endpoint) (records : List ℕ) where
       negated (both (both (both (by-fits-with e records) (by-eqb ring size)) (by-eqb finished size)) (by-eqb packets packetsSize))
 
   pub by-reclaim-misfit : (finished packets : ℕ)
-      → Decides (not (fitsWith e records && eqb finished size && eqb packets packetsSize)) ((FitsWith e records × (finished ≡ size)) × (packets ≡ packetsSize) → ⊥)
+      → Decides (not (fitsWith e records && eqb finished size && eqb packets packetsSize))
+      ((FitsWith e records × (finished ≡ size)) × (packets ≡ packetsSize) → ⊥)
   by-reclaim-misfit finished packets = negated (both (both (by-fits-with e records) (by-eqb finished size)) (by-eqb packets packetsSize))
 
   pub by-records-misfit : Decides (not (fitsWith e records)) (FitsWith e records → ⊥)

@@ -263,7 +263,8 @@ module _ (e : Endpoint) (ring finished records packets : List ℕ) (request : Re
       ≡ charged (e .account) (idTaken e records) (recordTaken e) (required request (length lengths)))
   unfolding startedEndpoint
   submit-done =
-      let whole = submit-acts e ring finished records packets request lengths (submit-as-start e ring finished records packets request lengths fit ∙ passed) in (
+      let admitted = submit-as-start e ring finished records packets request lengths fit ∙ passed in
+      let whole = submit-acts e ring finished records packets request lengths admitted in (
         ap (λ x. x .0 .answer) whole ∙ start-finishes .answer,
         ap (λ x. x .0 .endpoint .work) whole ∙ start-finishes .work,
         ap (λ x. x .0 .endpoint .account) whole ∙ start-finishes .kept .account,
