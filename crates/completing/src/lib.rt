@@ -98,10 +98,10 @@ pub fn stopped(e: Endpoint, v: Record, number: usize) -> ReclaimedOne
 fn packets_told(v: Record) -> usize
     ensures { λ r. ⌜ r ≡ packetsTold v ⌝ }
 {
-    if v.kind != ISOCH {
-        return 0;
+    if v.kind == ISOCH {
+        return v.given as usize;
     }
-    v.given as usize
+    0
 }
 
 fn came_to(v: Record, number: usize, size: u64) -> Completion

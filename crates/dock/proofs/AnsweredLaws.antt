@@ -178,11 +178,17 @@ module _ (s : State) where
     unfolding reclaimTests
     all-numbered = refl
 
-    reclaim-done : refusedNo ≡ 0 → answered s (reclaims id) ≡ said s (reclaims id)
-    unfolding reclaimNo cameTo
-    reclaim-done z =
+    -- A reclaim that is not refused is answered by what its id has come to.
+    pub reclaim-said : refusedNo ≡ 0 → answered s (reclaims id) ≡ saidOf (cameTo s id)
+    unfolding cameTo
+    reclaim-said z =
         ap (λ (x : ReclaimedOne × List ℕ × List ℕ). reclaimedNumber (x .0 .answer)) (reclaim-acts e (s .finished) (s .records) (s .packets) id z)
         ∙ came-said (findIn (s .records) (e .account .occupancy) id)
+
+    reclaim-done : refusedNo ≡ 0 → answered s (reclaims id) ≡ said s (reclaims id)
+    unfolding reclaimNo
+    reclaim-done z =
+        reclaim-said z
         ∙ ap (λ (n : ℕ). (n, cameValues (cameTo s id) n)) (sym (first-rest firstTests (cameTests (cameTo s id)) all-numbered z))
 
     reclaim-refused : (refusedNo ≡ 0 → ⊥) → answered s (reclaims id) ≡ said s (reclaims id)

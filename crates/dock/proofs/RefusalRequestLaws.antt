@@ -5,6 +5,7 @@ use mathlib.Core.Bool.{Bool, true, false, not, _&&_}
 use mathlib.Core.List.{List}
 use mathlib.Core.Logic.{_⊎_}
 use mathlib.Core.Path.{_≡_, refl, sym, subst, _∙_}
+use borrow.Author.Tests.{eqb-true, not-false}
 use lib.Dec.{eqb}
 use Rattle.base.proofs.Decide.{Decides, if-so, if-not, by-leb, by-ltb, by-eqb, by-true, both, either, negated, reworded}
 use Rattle.mask.specs.Occupancy.{held}
@@ -99,6 +100,14 @@ module _ (records : List ℕ) (occupancy : Occupancy) (id : ℕ) where
   -- Row 6: "cancel of an id not in flight". The record that the id names, if there is one, is not in flight.
   pub by-not-flying : Decides (notFlying records (findIn records occupancy id)) (OfNamed (λ r. recordAt records r .state ≡ inFlight) → ⊥)
   by-not-flying = by-flying (findIn records occupancy id) (find-finds recordCount (held occupancy) (idAt records) id)
+
+  -- A cancel that row 6 lets pass has such a record.
+  flying-by : (f : Lookup) → Finds recordCount named f → notFlying records f ≡ false → OfNamed (λ r. recordAt records r .state ≡ inFlight)
+  flying-by Nothing f t = absurd (never-both refl t)
+  flying-by (At r) f t = (r, to-named r f, eqb-true (recordAt records r .state) inFlight (not-false _ t))
+
+  pub flying-named : notFlying records (findIn records occupancy id) ≡ false → OfNamed (λ r. recordAt records r .state ≡ inFlight)
+  flying-named = flying-by (findIn records occupancy id) (find-finds recordCount (held occupancy) (idAt records) id)
 
 -- Row 1: "for reclaim, its record in flight with a place above L-2 or over 64 packets".
 pub by-bad-record : (e : Endpoint) (records : List ℕ) (id : ℕ)
