@@ -207,7 +207,7 @@ module _ (s : State) (id : ℕ) where
   abbrev Names : ℕ → Type 0
   Names r = Named (s .records) (s .endpoint .account .occupancy) id r
 
-  -- "An unknown id": no held record has it.
+  -- An unknown one: no held record has it.
   pub came-unknown : ((r : ℕ) → Names r → ⊥) → cameTo s id ≡ nowhere
   unfolding cameTo
   came-unknown none = ap (cameOf s) (unnamed-none (s .records) (s .endpoint .account .occupancy) id none)

@@ -1,5 +1,6 @@
 -- The laws of the definitions, the states that are reached from making, and the readings from the bench.
 pub mod AnsweredLaws
+pub mod AnsweredOnceLaws
 pub mod CancelLaws
 pub mod Reached
 pub mod ReachedBookLaws

@@ -150,12 +150,12 @@ pub by-mismatched : (v : Record) → Decides (mismatched v) ((v .kind ≡ isoch)
 unfolding mismatched
 by-mismatched v = both (by-eqb (v .kind) isoch) (negated (by-eqb (v .count) (v .given)))
 
--- "Accepted codes for control, bulk, interrupt: 1 and 13."
+-- "Accepted codes for control, bulk, interrupt: 1 and 13".
 pub by-accepted : (code : ℕ) → Decides (accepted code) ((code ≡ 1) ⊎ (code ≡ 13))
 unfolding accepted
 by-accepted code = either (by-eqb code 1) (by-eqb code 13)
 
--- "ISO, codes 1, 3, 4, 13, 23, 26, 31."
+-- "ISO, codes 1, 3, 4, 13, 23, 26, 31".
 pub by-counts : (code : ℕ)
     → Decides (counts code) (((((((code ≡ 1) ⊎ (code ≡ 3)) ⊎ (code ≡ 4)) ⊎ (code ≡ 13)) ⊎ (code ≡ 23)) ⊎ (code ≡ 26)) ⊎ (code ≡ 31))
 unfolding counts
