@@ -2,13 +2,11 @@
 use Prim.Native.Nat.{ℕ, _≤_}
 use mathlib.Core.Bool.{Bool, true, false, _&&_, and-eq-true-iff}
 use mathlib.Core.List.{List}
-use mathlib.Core.Logic.{⊎-elim}
 use mathlib.Core.Path.{_≡_, sym, ap, subst, _∙_}
 use native.Mathlib.Omega.{arith}
 use borrow.Author.Tests.{eqb-true}
 use lib.Dec.{eqb}
 use lib.ListN.{length}
-use Rattle.ids.proofs.AnyLaws.{true-or-false}
 use Rattle.sizes.specs.Sizes.{ringSize, packetCount, isoch}
 use Rattle.records.specs.declared.Record.{Record}
 use Rattle.dock.specs.declared.Endpoint.{Endpoint}
@@ -19,8 +17,8 @@ use Rattle.dock.specs.declared.StoredAll.{StoredAll}
 use Rattle.dock.specs.declared.Submitted.the-variants as submitted
 use Rattle.dock.specs.Requests.{kindOf, recordFor}
 use Rattle.dock.specs.Start.{startNo, tooLong, idTaken, startedEndpoint, startedRecords}
-use Rattle.dock.specs.Submit.{submit}
-use Rattle.dock.proofs.RefusalLaws.{submit-acts, submit-refuses, submit-misfits}
+use Rattle.dock.specs.Submit.{submitNo, submit}
+use Rattle.dock.proofs.RefusalLaws.{submit-passed, submit-acts, submit-refuses}
 use Rattle.dock.proofs.StartPacketLaws.{few-packets}
 use Rattle.dock.proofs.StartLaws.{start-admitted, record-below}
 use Rattle.dock.proofs.StartStoreLaws.{place-low}
@@ -31,7 +29,6 @@ use Rattle.admission.proofs.StartLaws.{admitted}
 use Rattle.starting.proofs.TakenLaws.{taken-is}
 use Rattle.sending.specs.Sent.{sentBy, Sendable}
 use Rattle.sending.proofs.SentLaws.{sent-is}
-use Rattle.building.specs.Numbers.{submitNo}
 
 abbrev Sent : Type 0
 Sent = StoredAll × List ℕ × List ℕ × List ℕ
@@ -53,37 +50,21 @@ module _ (e : Endpoint) (ring finished records packets : List ℕ) (request : Re
   abbrev fit : Bool
   fit = eqb (length ring) (ringSize (e .shape .slots)) && eqb (length finished) (ringSize (e .shape .slots))
 
-  as-start : fit ≡ true → number ≡ startNo e records (length packets) request lengths
-  unfolding submitNo
-  as-start t = rw t
-
-  as-one : fit ≡ false → number ≡ 1
-  unfolding submitNo
-  as-one t = rw t
-
-  abbrev refusedWith : ℕ → Left
-  refusedWith n = (record { answer = submitted.Refused n; endpoint = e }, ring, finished, records, packets)
-
   -- A number that is not 0 is the answer, and leaves everything.
-  pub refused : (number ≡ 0 → ⊥) → refusedWith number ≡ submit e ring finished records packets request lengths
-  refused n =
-      ⊎-elim
-      (λ (t : fit ≡ true).
-      ap refusedWith (as-start t) ∙ sym (submit-refuses e ring finished records packets request lengths t (λ z. n (as-start t ∙ z))))
-      (λ (t : fit ≡ false). ap refusedWith (as-one t) ∙ sym (submit-misfits e ring finished records packets request lengths t))
-      (true-or-false fit)
+  pub refused : (number ≡ 0 → ⊥)
+      → (record { answer = submitted.Refused number; endpoint = e }, ring, finished, records, packets) ≡ submit e ring finished records packets request lengths
+  refused n = sym (submit-refuses e ring finished records packets request lengths n)
 
   -- Where it is 0 the sizes are right and the start is admitted.
-  pub fits : number ≡ 0 → fit ≡ true
-  fits z =
-      ⊎-elim (λ (t : fit ≡ true). t) (λ (t : fit ≡ false). let o = as-one t in absurd (omega arith)) (true-or-false fit)
+  fits : number ≡ 0 → (fit ≡ true) × (startNo e records (length packets) request lengths ≡ 0)
+  fits z = submit-passed e ring finished records packets request lengths z
 
   module _ (z : number ≡ 0) where
     passed : startNo e records (length packets) request lengths ≡ 0
-    passed = sym (as-start (fits z)) ∙ z
+    passed = fits z .1
 
     both : (eqb (length ring) (ringSize (e .shape .slots)) ≡ true) × (eqb (length finished) (ringSize (e .shape .slots)) ≡ true)
-    both = and-eq-true-iff (eqb (length ring) (ringSize (e .shape .slots))) (eqb (length finished) (ringSize (e .shape .slots))) .0 (fits z)
+    both = and-eq-true-iff (eqb (length ring) (ringSize (e .shape .slots))) (eqb (length finished) (ringSize (e .shape .slots))) .0 (fits z .0)
 
     ring-size : length ring ≡ ringSize (e .shape .slots)
     ring-size = eqb-true _ _ (both .0)
@@ -145,4 +126,4 @@ module _ (e : Endpoint) (ring finished records packets : List ℕ) (request : Re
           ∙ ap (λ (v : Record). withRecords records₁ (sentBy begunNow v ring finished packets lengths)) held-is
           ∙ ap (λ (l : List ℕ). withRecords l (sentBy begunNow held ring finished packets lengths)) written-is
           ∙ ap (withRecords (startedRecords e records request lengths)) (sym (sent-is e ring finished records packets request lengths passed ring-size finished-size))
-          ∙ sym (submit-acts e ring finished records packets request lengths (fits z) passed)
+          ∙ sym (submit-acts e ring finished records packets request lengths z)

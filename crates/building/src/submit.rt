@@ -1,8 +1,7 @@
 // The whole submission, proved equal to the start and its stores in order. Each table is touched once: the tests read, then the record is written, then
 // each packet's length is read, written to its record and stored in its TRB.
 ghost use mathlib.Core.Path.{_≡_};
-ghost use Rattle.dock.specs.Submit.{submit};
-ghost use Rattle.building.specs.Numbers.{submitNo};
+ghost use Rattle.dock.specs.Submit.{submitNo, submit};
 use dock::Endpoint;
 use dock::Request;
 use dock::StoredAll;

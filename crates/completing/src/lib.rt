@@ -5,7 +5,7 @@ ghost use Prim.Native.Nat.{_-_, _<_};
 ghost use lib.Dec.{ltb, eqb};
 ghost use Rattle.base.specs.First.{first};
 ghost use Rattle.sizes.specs.Sizes.{recordCount};
-ghost use Rattle.dock.specs.Reclaim.{leave, mismatched, completeTests, completion, completeAnswer, complete, nothing, reclaimStopped};
+ghost use Rattle.dock.specs.Reclaim.{leave, mismatched, completeTests, packetsTold, completion, completeAnswer, complete, nothing, reclaimStopped};
 use dock::Account;
 use dock::Completion;
 use dock::Endpoint;
@@ -94,6 +94,16 @@ pub fn stopped(e: Endpoint, v: Record, number: usize) -> ReclaimedOne
     }
 }
 
+// Only an isochronous request has packets to tell of, whatever the record of another says.
+fn packets_told(v: Record) -> usize
+    ensures { λ r. ⌜ r ≡ packetsTold v ⌝ }
+{
+    if v.kind == ISOCH {
+        return v.given as usize;
+    }
+    0
+}
+
 fn came_to(v: Record, number: usize, size: u64) -> Completion
     ensures { λ r. ⌜ r ≡ completion v number size ⌝ }
 {
@@ -102,7 +112,7 @@ fn came_to(v: Record, number: usize, size: u64) -> Completion
         length: size,
         yes: says_yes(size, v.incoming),
         number,
-        packets: v.given as usize,
+        packets: packets_told(v),
     }
 }
 

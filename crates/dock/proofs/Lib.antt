@@ -1,4 +1,7 @@
 -- The laws of the definitions, the states that are reached from making, and the readings from the bench.
+pub mod AnsweredLaws
+pub mod AnsweredOnceLaws
+pub mod CancelLaws
 pub mod Reached
 pub mod ReachedBookLaws
 pub mod ReachedBytesLaws
@@ -17,10 +20,12 @@ pub mod ReclaimLeaveLaws
 pub mod ReclaimLengthLaws
 pub mod ReclaimNeedLaws
 pub mod ReclaimOnceLaws
+pub mod ReclaimPacketLaws
 pub mod ReclaimResidualLaws
 pub mod ReclaimSettleLaws
 pub mod RefusalAnswerLaws
 pub mod RefusalLaws
+pub mod RefusalRequestLaws
 pub mod RefusalRowLaws
 pub mod RefusalTestLaws
 pub mod RetireLaws

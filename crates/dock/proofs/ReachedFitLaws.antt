@@ -27,7 +27,7 @@ use Rattle.ids.proofs.LookupLaws.{find-finds}
 use Rattle.trb.specs.declared.Words.{Words}
 use Rattle.records.proofs.RecordLaws.{record-put, record-other}
 use Rattle.ids.proofs.AnyLaws.{true-or-false, never-both, by-held}
-use Rattle.records.specs.Records.{inFlight, recordAt, setWord}
+use Rattle.records.specs.Records.{inFlight, cancelledWord, recordAt, setWord}
 use Rattle.records.specs.declared.Record.{Record}
 use Rattle.dock.specs.declared.Changed.{Changed}
 use Rattle.dock.specs.declared.Endpoint.{Endpoint}
@@ -463,15 +463,18 @@ idle-placed s e records packets k p idle shape less alike measured kept = record
       (omega (arith, ap (λ (x : Shape). x .slots) shape, alike .place r, b .0), omega (arith, alike .count r, b .1), measured r (b .2));
 }
 
-marked-measured : (records : List ℕ) (f : Lookup) (r : ℕ) → Measured (recordAt records r) → Measured (recordAt (marked records f) r)
+mark-measured : (records : List ℕ) (q r mark : ℕ) → Measured (recordAt records r) → Measured (recordAt (setWord records q cancelledWord mark) r)
 unfolding recordAt setWord
-marked-measured records lookup.Nothing r m = m
-marked-measured records (lookup.At q) r m =
+mark-measured records q r mark m =
     omega (
       arith,
-      getD-set-other records (recordWords * q + 4) (recordWords * r + 11) 1 0 (λ e. omega arith),
-      getD-set-other records (recordWords * q + 4) (recordWords * r + 6) 1 0 (λ e. omega arith),
+      getD-set-other records (recordWords * q + 4) (recordWords * r + 11) mark 0 (λ e. omega arith),
+      getD-set-other records (recordWords * q + 4) (recordWords * r + 6) mark 0 (λ e. omega arith),
     )
+
+marked-measured : (records : List ℕ) (f : Lookup) (r : ℕ) → Measured (recordAt records r) → Measured (recordAt (marked records f) r)
+marked-measured records lookup.Nothing r m = m
+marked-measured records (lookup.At q) r m = mark-measured records q r _ m
 
 cancel-placed : (s : State) (id : ℕ) → Placed s → Placed (run.after s (cancels id))
 unfolding cancel cancelNo cancelTests

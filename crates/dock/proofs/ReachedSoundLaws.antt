@@ -396,7 +396,7 @@ hand-sound s event h =
 
 pub marked-alike : (records : List ℕ) (f : Lookup) → Alike records (marked records f)
 marked-alike records lookup.Nothing = alike-same records
-marked-alike records (lookup.At r) = alike-set records r cancelledWord 1 (omega arith) (λ e. omega arith) (λ e. omega arith) (λ e. omega arith) (λ e. omega arith)
+marked-alike records (lookup.At r) = alike-set records r cancelledWord _ (omega arith) (λ e. omega arith) (λ e. omega arith) (λ e. omega arith) (λ e. omega arith)
 
 -- Ids, states and counts as they were, and packets of the same length: the invariant holds on.
 pub alike-sound : (s : State) (records packets : List ℕ) → Sound s → Alike (s .records) records → length packets ≡ length (s .packets)

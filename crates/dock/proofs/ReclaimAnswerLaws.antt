@@ -2,13 +2,14 @@
 -- that is the sum of its packets. Assumes nothing.
 use Prim.Native.Nat.{ℕ, zero, suc, _+_, _-_, _<_, _≤_}
 use mathlib.Core.Bool.{Bool, true, false, not, _&&_, _||_}
-use mathlib.Core.List.{List}
+use mathlib.Core.List.{List, [], _∷_}
 use mathlib.Core.Logic.{⊎-elim}
 use mathlib.Core.Path.{_≡_, refl, ap, _∙_}
 use native.Mathlib.Omega.{arith}
 use borrow.Author.Tests.{eq-eqb, ne-eqb}
-use lib.Dec.{eqb}
+use lib.Dec.{eqb, ltb}
 use lib.ListN.{length}
+use Rattle.base.specs.Fields.{flag}
 use Rattle.base.specs.First.{first}
 use Rattle.mask.specs.Bit.{sum}
 use Rattle.sizes.specs.Sizes.{recordCount, recordsSize, packetCount}
@@ -27,6 +28,7 @@ use Rattle.dock.specs.declared.Reclaimed.the-variants as answer
 use Rattle.dock.specs.declared.ReclaimedOne.{ReclaimedOne}
 use Rattle.dock.specs.Worth.{bytes, refused, worth, counts, accepted, movedBytes}
 use Rattle.dock.specs.Reclaim.{leave, mismatched, completeTests, completion, completeAnswer, complete, codeOf, remainingOf, bulkBy, reclaimBulk, Seen, onward, ends, stageBy, statusBy, recordedLength, recordedBy, statusPlace, dataSeen, afterStage, reclaimControl, total, Swept, unfinished, fatal, found, sweep, sweptAnswer, reclaimIso}
+use Rattle.dock.specs.Numbers.{Numbered, reclaimedNumber}
 use Rattle.dock.proofs.RetireLaws.{picked}
 use Rattle.dock.proofs.ReclaimLaws.{Measured, recorded-by, control-own, iso-own}
 
@@ -45,26 +47,42 @@ and-false a false = or-false a
 -- ---- the order of the answers: "for a completion 7, 9, 8"
 
 module _ (e : Endpoint) (v : Record) (number code : ℕ) (fails : Bool) (size : ℕ) where
-  -- A cancelled request answers `Cancelled`, whatever else;
-  pub cancelled-first : v .cancelled ≡ true → complete e v number code fails size .answer ≡ answer.Cancelled
+  answers-cancelled : v .cancelled ≡ true → complete e v number code fails size .answer ≡ answer.Cancelled
   unfolding complete completeTests
-  cancelled-first c = rw c
+  answers-cancelled c = rw c
 
-  -- else one whose packets differ from the lengths given answers `Mismatch`;
-  pub mismatch-next : v .cancelled ≡ false → mismatched v ≡ true → complete e v number code fails size .answer ≡ answer.Mismatch
+  answers-mismatch : v .cancelled ≡ false → mismatched v ≡ true → complete e v number code fails size .answer ≡ answer.Mismatch
   unfolding complete completeTests mismatched
-  mismatch-next c m = rw (c, m)
+  answers-mismatch c m = rw (c, m)
 
-  -- else a refused code answers `Failed` with that code;
-  pub failed-next : v .cancelled ≡ false → mismatched v ≡ false → fails ≡ true → complete e v number code fails size .answer ≡ answer.Failed code
+  answers-failed : v .cancelled ≡ false → mismatched v ≡ false → fails ≡ true → complete e v number code fails size .answer ≡ answer.Failed code
   unfolding complete completeTests mismatched
-  failed-next c m f = rw (c, m, f)
+  answers-failed c m f = rw (c, m, f)
 
-  -- else it is done.
-  pub done-last : v .cancelled ≡ false → mismatched v ≡ false → fails ≡ false
+  answers-done : v .cancelled ≡ false → mismatched v ≡ false → fails ≡ false
       → complete e v number code fails size .answer ≡ answer.Done (completion v number size)
   unfolding complete completeTests mismatched
-  done-last c m f = rw (c, m, f)
+  answers-done c m f = rw (c, m, f)
+
+  -- What it is answered, as the paper has it.
+  abbrev told : Numbered
+  told = reclaimedNumber (complete e v number code fails size .answer)
+
+  -- A cancelled request is answered 7, whatever else;
+  pub cancelled-first : v .cancelled ≡ true → told ≡ (7, [])
+  cancelled-first c = ap reclaimedNumber (answers-cancelled c)
+
+  -- else one whose packets differ from the lengths given 9;
+  pub mismatch-next : v .cancelled ≡ false → mismatched v ≡ true → told ≡ (9, [])
+  mismatch-next c m = ap reclaimedNumber (answers-mismatch c m)
+
+  -- else a refused code 8, "with the code number";
+  pub failed-next : v .cancelled ≡ false → mismatched v ≡ false → fails ≡ true → told ≡ (8, code ∷ [])
+  failed-next c m f = ap reclaimedNumber (answers-failed c m f)
+
+  -- else it is done: id, length, and "a yes says whether it is above 0 and direction in".
+  pub done-last : v .cancelled ≡ false → mismatched v ≡ false → fails ≡ false → told ≡ (0, v .id ∷ size ∷ flag (ltb 0 size && v .incoming) ∷ [])
+  done-last c m f = ap reclaimedNumber (answers-done c m f)
 
   -- ---- halted
 
@@ -116,7 +134,7 @@ module _ (e : Endpoint) (v : Record) (number : ℕ) where
 
   -- A refused code is answered with 8 and that code.
   pub bulk-refused : (finished : List ℕ) (w : Words) → finishedAt finished (v .place) ≡ place.Event w → accepted (codeOf w) ≡ false
-      → v .cancelled ≡ false → mismatched v ≡ false → reclaimBulk e finished v number .answer ≡ answer.Failed (codeOf w)
+      → v .cancelled ≡ false → mismatched v ≡ false → reclaimedNumber (reclaimBulk e finished v number .answer) ≡ (8, codeOf w ∷ [])
   unfolding reclaimBulk
   bulk-refused finished w here refuses c m =
       rw here
@@ -167,12 +185,21 @@ module _ (e : Endpoint) (v : Record) (number : ℕ) where
   unfolding complete completeTests
   refused-not-done code size c d =
       ⊎-elim
-      (λ (t : v .cancelled ≡ true). let was = cancelled-first e v number code true size t in let z : _≡_ {A = ℕ} 0 1 = cc in omega arith)
+      (λ (t : v .cancelled ≡ true). let was = answers-cancelled e v number code true size t in let z : _≡_ {A = ℕ} 0 1 = cc in omega arith)
       (λ (t : v .cancelled ≡ false).
       ⊎-elim
-      (λ (u : mismatched v ≡ true). let was = mismatch-next e v number code true size t u in let z : _≡_ {A = ℕ} 0 1 = cc in omega arith)
-      (λ (u : mismatched v ≡ false). let was = failed-next e v number code true size t u refl in let z : _≡_ {A = ℕ} 0 1 = cc in omega arith)
+      (λ (u : mismatched v ≡ true). let was = answers-mismatch e v number code true size t u in let z : _≡_ {A = ℕ} 0 1 = cc in omega arith)
+      (λ (u : mismatched v ≡ false). let was = answers-failed e v number code true size t u refl in let z : _≡_ {A = ℕ} 0 1 = cc in omega arith)
       (true-or-false (mismatched v)))
+      (true-or-false (v .cancelled))
+
+  -- Nor is one whose packets differ.
+  pub differs-not-done : (code : ℕ) (fails : Bool) (size : ℕ) (c : Completion) → mismatched v ≡ true
+      → complete e v number code fails size .answer ≡ answer.Done c → ⊥
+  differs-not-done code fails size c m d =
+      ⊎-elim
+      (λ (t : v .cancelled ≡ true). let was = answers-cancelled e v number code fails size t in let z : _≡_ {A = ℕ} 0 1 = cc in omega arith)
+      (λ (t : v .cancelled ≡ false). let was = answers-mismatch e v number code fails size t m in let z : _≡_ {A = ℕ} 0 1 = cc in omega arith)
       (true-or-false (v .cancelled))
 
   swept-by : (s : Swept) (packets : List ℕ) (c : Completion) → sweptAnswer s e v number packets .answer ≡ answer.Done c

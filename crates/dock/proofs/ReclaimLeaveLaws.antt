@@ -149,12 +149,16 @@ module _ (e : Endpoint) (finished records packets : List ℕ) (id : ℕ) where
       (sym (reclaim-acts e finished records packets id passed))
       (found-fair e finished records packets (findIn records (e .account .occupancy) id))
 
+  -- A reclaim whose number is 0 answers no refusal.
+  pub reclaim-admitted : number ≡ 0 → (n : ℕ) → reclaim e finished records packets id .0 .answer ≡ answer.Refused n → ⊥
+  reclaim-admitted passed = fair passed .one .admitted
+
   -- A refusal has the call's number, and leaves everything.
   pub reclaim-refused : (n : ℕ) → reclaim e finished records packets id .0 .answer ≡ answer.Refused n
       → reclaim e finished records packets id ≡ (record { answer = answer.Refused number; endpoint = e }, records, packets)
   reclaim-refused n q =
       ⊎-elim
-      (λ (p : number ≡ 0). absurd (fair p .one .admitted n q))
+      (λ (p : number ≡ 0). absurd (reclaim-admitted p n q))
       (λ (p : number ≡ 0 → ⊥). reclaim-refuses e finished records packets id p)
       (same-or-not number 0)
 

@@ -3,7 +3,9 @@
 use Prim.Native.Nat.{ℕ, max}
 use mathlib.Core.Bool.{Bool, true, false, _&&_, not}
 use mathlib.Core.List.{List}
-use mathlib.Core.Path.{_≡_, refl, _∙_}
+use mathlib.Core.Logic.{⊎-elim}
+use mathlib.Core.Path.{_≡_, refl, sym, _∙_}
+use native.Mathlib.Omega.{arith}
 use lib.Dec.{eqb}
 use lib.ListN.{length}
 use Rattle.base.specs.First.{pick}
@@ -11,6 +13,7 @@ use Rattle.base.proofs.Chosen.{Exact, exact, acts, declines}
 use Rattle.trb.specs.declared.Words.{Words}
 use Rattle.sizes.specs.Sizes.{ringSize, recordCount}
 use Rattle.ids.specs.Lookup.{findIn}
+use Rattle.ids.proofs.AnyLaws.{true-or-false}
 use Rattle.ring.specs.Ring.{enqueuePointer}
 use Rattle.finished.specs.Finished.{fillPlace}
 use Rattle.records.specs.Records.{recordAt}
@@ -38,7 +41,7 @@ use Rattle.dock.specs.Retire.{recordTests, recordNo, retiredBelow, retir
 use Rattle.dock.specs.Start.{startTests, startNo, start, startedEndpoint, startedRecords, recordTaken, writePackets}
 use Rattle.dock.specs.State.{fresh, blank, withPeriodic, withFlags, withAccount}
 use Rattle.dock.specs.NextStore.{storeTests, storeNo, store, storedAnswer, stepped, settled, ringStored, finishedStored}
-use Rattle.dock.specs.Submit.{submit, finish, mostStores, joined}
+use Rattle.dock.specs.Submit.{submitTests, submitNo, submit, finish, mostStores, joined}
 
 pick-true : {A : Type 0} {b : Bool} (x y : A) → b ≡ true → pick b x y ≡ x
 pick-true x y q = rw q
@@ -187,34 +190,45 @@ module _ (e : Endpoint) (ring finished records packets : List ℕ) (request : Re
   abbrev ringsFit : Bool
   ringsFit = eqb (length ring) (ringSize (e .shape .slots)) && eqb (length finished) (ringSize (e .shape .slots))
 
-  -- Where the ring or the finished table has a wrong size it is refused with 1, and leaves everything.
-  pub submit-misfits : ringsFit ≡ false
-      → submit e ring finished records packets request lengths
-      ≡ (record { answer = submitted.Refused 1; endpoint = e }, ring, finished, records, packets)
-  unfolding submit
+  abbrev numberOfSubmit : ℕ
+  numberOfSubmit = submitNo e (length ring) (length finished) records (length packets) request lengths
+
+  pub submit-exact : Exact (submitTests e (length ring) (length finished) records (length packets) request lengths) numberOfSubmit
+  unfolding submitTests submitNo startTests
+  submit-exact = exact (submitTests e (length ring) (length finished) records (length packets) request lengths) refl
+
+  -- Where the ring and the finished table have their sizes it is the start's number, and else 1.
+  pub submit-as-start : ringsFit ≡ true → numberOfSubmit ≡ startNo e records (length packets) request lengths
+  unfolding submitTests submitNo startNo
+  submit-as-start fit = rw fit
+
+  pub submit-misfits : ringsFit ≡ false → numberOfSubmit ≡ 1
+  unfolding submitTests submitNo
   submit-misfits off = rw off
 
-  -- Where its start is refused it is refused with that number, and leaves everything.
-  pub submit-refuses : ringsFit ≡ true → (startNo e records (length packets) request lengths ≡ 0 → ⊥)
+  -- A number of 0 has both: the sizes, and a start that is admitted.
+  pub submit-passed : numberOfSubmit ≡ 0 → (ringsFit ≡ true) × (startNo e records (length packets) request lengths ≡ 0)
+  submit-passed passed =
+      ⊎-elim
+      (λ (fit : ringsFit ≡ true). (fit, sym (submit-as-start fit) ∙ passed))
+      (λ (off : ringsFit ≡ false). absurd (let one = submit-misfits off in omega arith))
+      (true-or-false ringsFit)
+
+  -- Any other is answered, and leaves everything.
+  pub submit-refuses : (numberOfSubmit ≡ 0 → ⊥)
       → submit e ring finished records packets request lengths
-      ≡ (
-        record { answer = submitted.Refused (startNo e records (length packets) request lengths); endpoint = e },
-        ring,
-        finished,
-        records,
-        packets,
-      )
+      ≡ (record { answer = submitted.Refused numberOfSubmit; endpoint = e }, ring, finished, records, packets)
   unfolding submit
-  submit-refuses fit refused = rw (fit, start-refuses e records packets request lengths refused)
+  submit-refuses refused = declines _ _ refused
 
   -- Where it is admitted, the stores follow the start, on the endpoint and the tables that it left.
-  pub submit-acts : ringsFit ≡ true → startNo e records (length packets) request lengths ≡ 0
+  pub submit-acts : numberOfSubmit ≡ 0
       → let written = startedRecords e records request lengths in
       let asked = writePackets packets (recordTaken e) (request .what) lengths in
       submit e ring finished records packets request lengths
       ≡ joined (finish (mostStores request (length lengths)) (startedEndpoint e records request lengths) ring finished written asked) written asked
   unfolding submit
-  submit-acts fit passed = rw (fit, start-acts e records packets request lengths passed)
+  submit-acts passed = acts _ _ passed ∙ rw (start-acts e records packets request lengths (submit-passed passed .1))
 
 -- ---- an event handed over
 

@@ -27,6 +27,7 @@ use Rattle.dock.specs.Reset.{beginTests, beginNo, endTests, endNo, occup
 use Rattle.dock.specs.Retire.{recordTests, recordNo}
 use Rattle.dock.specs.Start.{crowded, tooLong, isFull, beyond, startTests, startNo}
 use Rattle.dock.specs.NextStore.{storeTests, storeNo}
+use Rattle.dock.specs.Submit.{submitTests, submitNo}
 
 -- "Making knows only 13, then 1."
 pub make-rows : (ring finished records packets : ℕ) (shape : Shape) (who : Identity)
@@ -109,6 +110,13 @@ module _ (e : Endpoint) (records packets : List ℕ) (request : Request) (length
       ≡ pick (not fit) 1 (pick (e .work .busy) 12 (pick (e .flags .reset) 2 (pick crowd 2 (pick (tooLong (request .what) (request .length) lengths) 3 (pick full 4 (pick out 5 0))))))
   unfolding startTests startNo
   start-rows = refl
+
+  -- The whole submission: 1 by the sizes of the ring and the finished table, then the start's.
+  pub submit-rows : (ring finished : ℕ)
+      → submitNo e ring finished records (length packets) request lengths
+      ≡ pick (not (eqb ring (ringSize (e .shape .slots)) && eqb finished (ringSize (e .shape .slots)))) 1 (startNo e records (length packets) request lengths)
+  unfolding submitTests submitNo startNo
+  submit-rows ring finished = refl
 
   pub start-misfit : fit ≡ false → startNo e records (length packets) request lengths ≡ 1
   start-misfit a = start-rows ∙ rw a

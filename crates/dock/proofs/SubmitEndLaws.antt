@@ -29,7 +29,7 @@ use Rattle.dock.specs.NextStore.{storeNo, store, stepped}
 use Rattle.dock.specs.Trbs.{trbCount}
 use Rattle.dock.specs.Submit.{afterStore, finish, mostStores, submit}
 use Rattle.dock.proofs.StoreNextLaws.{because, Storing, store-admits}
-use Rattle.dock.proofs.RefusalLaws.{submit-acts}
+use Rattle.dock.proofs.RefusalLaws.{submit-as-start, submit-acts}
 use Rattle.dock.proofs.StartLaws.{start-admitted, record-written}
 use Rattle.dock.proofs.StartStoreLaws.{place-low, started-storing, started-count}
 use Rattle.dock.proofs.StoreStepLaws.{Kept, step-keeps, step-works, first-is-last, store-keeps, store-goes-on, store-ends}
@@ -258,7 +258,8 @@ module _ (e : Endpoint) (ring finished records packets : List ℕ) (request : Re
       ≡ charged (e .account) (idTaken e records) (recordTaken e) (required request (length lengths)))
   unfolding startedEndpoint
   submit-done =
-      let whole = submit-acts e ring finished records packets request lengths fit passed in (
+      let admitted = submit-as-start e ring finished records packets request lengths fit ∙ passed in
+      let whole = submit-acts e ring finished records packets request lengths admitted in (
         ap (λ x. x .0 .answer) whole ∙ start-finishes .answer,
         ap (λ x. x .0 .endpoint .work) whole ∙ start-finishes .work,
         ap (λ x. x .0 .endpoint .account) whole ∙ start-finishes .kept .account,

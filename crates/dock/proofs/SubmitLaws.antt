@@ -1,20 +1,15 @@
 -- A whole submission is a start and stores: what every start and every store keeps, it keeps (`submit-keeps`). Assumes nothing.
 use Prim.Native.Nat.{ℕ, zero, suc}
-use mathlib.Core.Bool.{_&&_}
 use mathlib.Core.List.{List}
 use lib.Dec.{eqb}
 use lib.ListN.{length}
 use Rattle.dock.specs.declared.Endpoint.{Endpoint}
-use Rattle.dock.specs.declared.Outcome.{Outcome}
-use Rattle.dock.specs.declared.Outcome.the-variants.{Done, Refused}
 use Rattle.dock.specs.declared.Request.{Request}
 use Rattle.dock.specs.declared.Stored.{Stored}
 use Rattle.dock.specs.declared.Stored.the-variants as store
 use Rattle.dock.specs.declared.StoredAll.{StoredAll}
-use Rattle.sizes.specs.Sizes.{ringSize}
-use Rattle.dock.specs.Start as starting
 use Rattle.dock.specs.NextStore as storing
-use Rattle.dock.specs.Submit.{finish, mostStores, submit}
+use Rattle.dock.specs.Submit.{submitNo, finish, mostStores, submit}
 use Rattle.dock.specs.Submit as submitting
 use Rattle.dock.specs.Run.{State, stateOf, starts, stores, submits, after}
 use Rattle.dock.proofs.RetireLaws.{picked}
@@ -38,18 +33,10 @@ module _ (P : State → Type 0) (stored : (s : State) → P s → P (after s sto
       by-stored (a .0 .answer) (after s stores) (λ e ring finished. finish n e ring finished (s .records) (s .packets)) (stored s h)
       (finish-keeps n (after s stores) (stored s h))
 
-  by-started : (x : Outcome) (s : State) (most : ℕ) → P s
-      → let a = submitting.afterStart x (s .endpoint) most (s .ring) (s .finished) (s .records) (s .packets) in
-      P (stateOf (a .0 .endpoint) (a .1) (a .2) (a .3) (a .4))
-  by-started Done s most h = finish-keeps most s h
-  by-started (Refused number) s most h = h
-
   pub submit-keeps : (s : State) (request : Request) (lengths : List ℕ) → P s → P (after s (starts request lengths)) → P (after s (submits request lengths))
   unfolding submit
   submit-keeps s request lengths h started =
-      let e = s .endpoint in
-      let a = starting.start e (s .records) (s .packets) request lengths in
       picked (λ (x : StoredAll × List ℕ × List ℕ × List ℕ × List ℕ). P (stateOf (x .0 .endpoint) (x .1) (x .2) (x .3) (x .4)))
-      (eqb (length (s .ring)) (ringSize (e .shape .slots)) && eqb (length (s .finished)) (ringSize (e .shape .slots))) _ _
-      (λ t. by-started (a .0 .answer) (after s (starts request lengths)) (mostStores request (length lengths)) started)
+      (eqb (submitNo (s .endpoint) (length (s .ring)) (length (s .finished)) (s .records) (length (s .packets)) request lengths) 0) _ _
+      (λ t. finish-keeps (mostStores request (length lengths)) (after s (starts request lengths)) started)
       (λ t. h)

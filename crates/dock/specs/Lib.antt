@@ -1,4 +1,5 @@
--- The definitions of the dock: what it may hold, its state, one file for each call, in document 01's order and words, and a run of calls as data.
+-- The definitions of the dock: what it may hold, its state, one file for each call, in document 01's order and words, a run of calls as data,
+-- and what every call answers by the rows.
 pub mod Limits
 pub mod State
 pub mod Requests
@@ -19,3 +20,4 @@ pub mod Reset
 pub mod Commands
 pub mod Numbers
 pub mod Run
+pub mod Tests

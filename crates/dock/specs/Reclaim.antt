@@ -58,10 +58,14 @@ mismatched v = eqb (v .kind) isoch && not (eqb (v .count) (v .given))
 unfoldable pub completeTests : Record → Bool → List (Bool × ℕ)
 completeTests v fails = (v .cancelled, 7) ∷ (mismatched v, 9) ∷ (fails, 8) ∷ []
 
+-- "Then any ISO packet lengths": a request of another kind has none, whatever its record says.
+abbrev pub packetsTold : Record → ℕ
+packetsTold v = pick (eqb (v .kind) isoch) (v .given) 0
+
 -- "A yes says whether it is above 0 and direction in."
 abbrev pub completion : Record → ℕ → ℕ → Completion
 completion v number size =
-    record { id = v .id; length = size; yes = ltb 0 size && v .incoming; number = number; packets = v .given }
+    record { id = v .id; length = size; yes = ltb 0 size && v .incoming; number = number; packets = packetsTold v }
 
 abbrev pub completeAnswer : ℕ → Record → ℕ → ℕ → ℕ → Reclaimed
 completeAnswer which v number code size =

@@ -1,22 +1,33 @@
 -- The whole submission: the start, and its stores in order.
 use Prim.Native.Nat.{ℕ, zero, suc, _+_}
-use mathlib.Core.List.{List}
-use Rattle.base.specs.First.{pick}
+use mathlib.Core.Bool.{Bool, not, _&&_}
+use mathlib.Core.List.{List, _∷_}
+use lib.Dec.{eqb}
+use lib.ListN.{length}
+use Rattle.base.specs.First.{pick, first}
+use Rattle.sizes.specs.Sizes.{ringSize}
 use Rattle.dock.specs.declared.Endpoint.{Endpoint}
-use Rattle.dock.specs.declared.Outcome.{Outcome}
-use Rattle.dock.specs.declared.Outcome.the-variants.{Done, Refused}
 use Rattle.dock.specs.declared.Request.{Request}
 use Rattle.dock.specs.declared.Stored.{Stored}
 use Rattle.dock.specs.declared.Stored.the-variants as stored
 use Rattle.dock.specs.declared.StoredAll.{StoredAll}
 use Rattle.dock.specs.declared.Submitted.the-variants as submitted
 use Rattle.dock.specs.Requests.{required}
-use Rattle.dock.specs.Start.{start}
+use Rattle.dock.specs.Start.{startTests, start}
 use Rattle.dock.specs.NextStore.{store}
-use Rattle.sizes.specs.Sizes.{ringSize}
-use lib.Dec.{eqb}
-use lib.ListN.{length}
-use mathlib.Core.Bool.{_&&_}
+
+-- ---- the refusals
+
+-- "Tables of the wrong size": also the ring's and the finished table's, for no store could follow; then the start's refusals.
+unfoldable pub submitTests : Endpoint → ℕ → ℕ → List ℕ → ℕ → Request → List ℕ → List (Bool × ℕ)
+submitTests e ring finished records packets request lengths =
+    (not (eqb ring (ringSize (e .shape .slots)) && eqb finished (ringSize (e .shape .slots))), 1)
+    ∷ startTests e records packets request lengths
+
+unfoldable pub submitNo : Endpoint → ℕ → ℕ → List ℕ → ℕ → Request → List ℕ → ℕ
+submitNo e ring finished records packets request lengths = first (submitTests e ring finished records packets request lengths)
+
+-- ---- the stores
 
 -- What follows a store: the next ones, until the last has answered.
 abbrev pub afterStore : Stored → Endpoint → List ℕ → List ℕ → (Endpoint → List ℕ → List ℕ → StoredAll × List ℕ × List ℕ) → StoredAll × List ℕ × List ℕ
@@ -39,15 +50,12 @@ mostStores request count = required request count + 2
 abbrev pub joined : StoredAll × List ℕ × List ℕ → List ℕ → List ℕ → StoredAll × List ℕ × List ℕ × List ℕ × List ℕ
 joined s records packets = (s .0, s .1, s .2, records, packets)
 
-abbrev pub afterStart : Outcome → Endpoint → ℕ → List ℕ → List ℕ → List ℕ → List ℕ → StoredAll × List ℕ × List ℕ × List ℕ × List ℕ
-afterStart Done e most ring finished records packets = joined (finish most e ring finished records packets) records packets
-afterStart (Refused row) e most ring finished records packets =
-    (record { answer = submitted.Refused row; endpoint = e }, ring, finished, records, packets)
+-- ---- the call
 
--- The start is refused also where the ring or the finished table has a wrong size: then no store could follow.
 unfoldable pub submit : Endpoint → List ℕ → List ℕ → List ℕ → List ℕ → Request → List ℕ → StoredAll × List ℕ × List ℕ × List ℕ × List ℕ
 submit e ring finished records packets request lengths =
+    let no = submitNo e (length ring) (length finished) records (length packets) request lengths in
     let s = start e records packets request lengths in
-    pick (eqb (length ring) (ringSize (e .shape .slots)) && eqb (length finished) (ringSize (e .shape .slots)))
-    (afterStart (s .0 .answer) (s .0 .endpoint) (mostStores request (length lengths)) ring finished (s .1) (s .2))
-    (record { answer = submitted.Refused 1; endpoint = e }, ring, finished, records, packets)
+    pick (eqb no 0)
+    (joined (finish (mostStores request (length lengths)) (s .0 .endpoint) ring finished (s .1) (s .2)) (s .1) (s .2))
+    (record { answer = submitted.Refused no; endpoint = e }, ring, finished, records, packets)

@@ -29,7 +29,7 @@ use Rattle.dock.specs.Make.{make, makeNo}
 use Rattle.dock.specs.Reclaim.{leave, nothing, reclaim}
 use Rattle.dock.specs.Start.{startNo}
 use Rattle.dock.specs.NextStore.{store, storeNo, storeTests}
-use Rattle.dock.specs.Submit.{finish, mostStores}
+use Rattle.dock.specs.Submit.{submitNo, finish, mostStores}
 use Rattle.dock.specs.Submit as submitting
 use Rattle.dock.proofs.SubmitEndLaws.{submit-done}
 use Rattle.dock.proofs.ReachedSoundLaws.{Untouched, Looked, reclaim-result}
@@ -37,7 +37,7 @@ use Rattle.dock.proofs.Reached.{Sound, flightPart}
 use Rattle.dock.specs.Run.{State, stateOf, madeOf, Call, configures, starts, stores, submits, reclaims, cancels, retires, begins, ends, stops, resumes, points, after}
 use Rattle.dock.specs.Run as dock
 use Rattle.dock.proofs.ReclaimLaws.{Left}
-use Rattle.dock.proofs.RefusalLaws.{start-acts, start-refuses, store-exact, store-refuses, submit-acts, submit-refuses}
+use Rattle.dock.proofs.RefusalLaws.{start-acts, start-refuses, store-exact, store-refuses, submit-as-start, submit-acts, submit-refuses}
 use Rattle.dock.proofs.RetireLaws.{picked}
 use Rattle.dock.proofs.StoreStepLaws.{store-goes-on, store-ends}
 use Rattle.dock.proofs.StoreLaws.{lastStore}
@@ -164,6 +164,10 @@ module _ (w : World) (h : Sound (w .dock)) (request : Request) (lengths : List �
       (by-eqb (length (s .finished)) (ringSize (s .endpoint .shape .slots))))
       (h .ringLong, h .finishedLong)
 
+  as-start : submitNo (s .endpoint) (length (s .ring)) (length (s .finished)) (s .records) (length (s .packets)) request lengths
+      ≡ startNo (s .endpoint) (s .records) (length (s .packets)) request lengths
+  as-start = submit-as-start (s .endpoint) (s .ring) (s .finished) (s .records) (s .packets) request lengths fit
+
   stored-dock : submitted w request lengths pauses .dock ≡ afterFinish (mostStores request (length lengths)) (after s (starts request lengths))
   unfolding submitted
   stored-dock =
@@ -182,7 +186,7 @@ module _ (w : World) (h : Sound (w .dock)) (request : Request) (lengths : List �
       (stateOf (a .0 .endpoint) (s .ring) (s .finished) (a .1) (a .2)))
       (start-acts (s .endpoint) (s .records) (s .packets) request lengths p)
       ∙ ap (λ (a : StoredAll × List ℕ × List ℕ × List ℕ × List ℕ). stateOf (a .0 .endpoint) (a .1) (a .2) (a .3) (a .4))
-      (sym (submit-acts (s .endpoint) (s .ring) (s .finished) (s .records) (s .packets) request lengths fit p))
+      (sym (submit-acts (s .endpoint) (s .ring) (s .finished) (s .records) (s .packets) request lengths (as-start ∙ p)))
 
   module _ (free : s .endpoint .work .busy ≡ false) where
     refused-is : (passes → ⊥) → submitted w request lengths pauses .dock ≡ after s (submits request lengths)
@@ -196,7 +200,7 @@ module _ (w : World) (h : Sound (w .dock)) (request : Request) (lengths : List �
         ∙ stays (mostStores request (length lengths)) s (rest-stays s free)
         ∙ sym
         (ap (λ (a : StoredAll × List ℕ × List ℕ × List ℕ × List ℕ). stateOf (a .0 .endpoint) (a .1) (a .2) (a .3) (a .4))
-        (submit-refuses (s .endpoint) (s .ring) (s .finished) (s .records) (s .packets) request lengths fit p))
+        (submit-refuses (s .endpoint) (s .ring) (s .finished) (s .records) (s .packets) request lengths (λ z. p (sym as-start ∙ z))))
 
     pub submitted-is : submitted w request lengths pauses .dock ≡ after s (submits request lengths)
     submitted-is =
@@ -212,7 +216,7 @@ module _ (w : World) (h : Sound (w .dock)) (request : Request) (lengths : List �
         (submit-done (s .endpoint) (s .ring) (s .finished) (s .records) (s .packets) request lengths p (h .ringLong) (h .finishedLong) .1))
         (λ (p : passes → ⊥).
         ap (λ (a : StoredAll × List ℕ × List ℕ × List ℕ × List ℕ). a .0 .endpoint .work .busy)
-        (submit-refuses (s .endpoint) (s .ring) (s .finished) (s .records) (s .packets) request lengths fit p)
+        (submit-refuses (s .endpoint) (s .ring) (s .finished) (s .records) (s .packets) request lengths (λ z. p (sym as-start ∙ z)))
         ∙ free)
         (same-or-not (startNo (s .endpoint) (s .records) (length (s .packets)) request lengths) 0)
 

@@ -1,11 +1,10 @@
 -- An answer that does not move the endpoint's words leaves the endpoint: of each call that changes it, by its definition. So the words that such an
 -- answer leaves say the endpoint afterwards too. Assumes nothing.
 use Prim.Native.Nat.{ℕ}
-use mathlib.Core.Bool.{Bool, true, false, _&&_, false≢true}
+use mathlib.Core.Bool.{Bool, true, false, false≢true}
 use mathlib.Core.List.{List}
 use mathlib.Core.Logic.{_⊎_, inl, inr, ⊎-elim}
 use mathlib.Core.Path.{_≡_, refl, sym, ap, _∙_}
-use lib.Dec.{eqb}
 use lib.ListN.{length}
 use Rattle.base.specs.First.{pick}
 use Rattle.base.proofs.Compare.{same-or-not}
@@ -30,10 +29,10 @@ use Rattle.dock.specs.Reset.{beginNo, beginReset, endNo, endReset}
 use Rattle.dock.specs.Retire.{recordNo, retire}
 use Rattle.dock.specs.Start.{startNo, start}
 use Rattle.dock.specs.NextStore.{storeNo, store, storedAnswer, slotStored}
-use Rattle.dock.specs.Submit.{submit}
+use Rattle.dock.specs.Submit.{submitNo, submit}
 use Rattle.dock.proofs.SubmitEndLaws.{submit-done}
 use Rattle.dock.proofs.ReclaimLeaveLaws.{reclaim-refused, reclaim-nothing}
-use Rattle.dock.proofs.RefusalLaws.{make-acts, configure-refuses, configure-acts, end-refuses, end-acts, start-refuses, start-acts, store-refuses, store-acts, submit-misfits, submit-refuses, retire-refuses, retire-acts, begin-refuses, begin-clear, begin-acts}
+use Rattle.dock.proofs.RefusalLaws.{make-acts, configure-refuses, configure-acts, end-refuses, end-acts, start-refuses, start-acts, store-refuses, store-acts, submit-passed, submit-refuses, retire-refuses, retire-acts, begin-refuses, begin-clear, begin-acts}
 use Rattle.loaded.specs.State.{moves}
 use Rattle.told.specs.Answer.{reclaimedTold}
 
@@ -130,21 +129,15 @@ module _ (e : Endpoint) where
   pub submit-leaves : (ring finished records packets : List ℕ) (request : Request) (lengths : List ℕ)
       → moves (submittedNumber (submit e ring finished records packets request lengths .0 .answer) .0) ≡ false
       → submit e ring finished records packets request lengths .0 .endpoint ≡ e
-  submit-leaves ring finished records packets request lengths m =
+  submit-leaves ring finished records packets request lengths =
       let sizes = both (by-eqb (length ring) (ringSize (e .shape .slots))) (by-eqb (length finished) (ringSize (e .shape .slots))) in
-      ⊎-elim
-      (λ (off : sized ≡ false). ap (λ x. x .0 .endpoint) (submit-misfits e ring finished records packets request lengths off))
-      (λ (on : sized ≡ true).
-      left (startNo e records (length packets) request lengths) _
+      left (submitNo e (length ring) (length finished) records (length packets) request lengths) _
       (λ z.
+      let passed = submit-passed e ring finished records packets request lengths z in
+      let fit = sizes .so (passed .0) in
       ap (λ (a : Submitted). submittedNumber a .0)
-      (submit-done e ring finished records packets request lengths z (sizes .so on .0) (sizes .so on .1) .0))
-      (λ n. ap (λ x. x .0 .endpoint) (submit-refuses e ring finished records packets request lengths on n))
-      m)
-      (off-or-on sized)
-    where
-      sized : Bool
-      sized = eqb (length ring) (ringSize (e .shape .slots)) && eqb (length finished) (ringSize (e .shape .slots))
+      (submit-done e ring finished records packets request lengths (passed .1) (fit .0) (fit .1) .0))
+      (λ n. ap (λ x. x .0 .endpoint) (submit-refuses e ring finished records packets request lengths n))
 
   -- A reclaim that frees no record: it is refused, or finds nothing.
   pub reclaim-leaves : (finished records packets : List ℕ) (id : ℕ)

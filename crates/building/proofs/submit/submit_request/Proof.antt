@@ -2,7 +2,7 @@
 use mathlib.Core.Path.{_≡_, sym, _∙_}
 use denote.Ref.{now}
 use lib.ListN.{length}
-use Rattle.building.specs.Numbers.{submitNo}
+use Rattle.dock.specs.Submit.{submitNo}
 use Rattle.building.proofs.SubmitLaws.{refused, takes, sendable, whole}
 use borrow.Author.Needs.{needs}
 use Rattle.building.proofs.submit.submit_request.Statement.{statement}
