@@ -4,6 +4,7 @@ use mathlib.Core.Bool.{Bool}
 use mathlib.Core.List.{List, [], _∷_, _++_}
 use lib.Dec.{ltb}
 use lib.ListN.{length, set, take}
+use Rattle.base.specs.Fields.{flag}
 use Rattle.base.specs.First.{pick}
 use Rattle.io.specs.Digits.{digits}
 
@@ -73,8 +74,8 @@ decimalField n = 9 ∷ decimal n
 unfoldable pub hexField : ℕ → ℕ → List ℕ
 hexField least n = 9 ∷ hex least n
 
-unfoldable pub flagField : Bool → List ℕ
-flagField b = 9 ∷ pick b 49 48 ∷ []
+abbrev pub flagField : Bool → List ℕ
+flagField b = decimalField (flag b)
 
 -- The end of a line.
 abbrev pub newline : List ℕ
