@@ -1,7 +1,7 @@
 -- What a line does where a ring is made: the endpoint, every table and the page afterwards, and how the session goes on. (`step`, the one line that
 -- moves the controller, is in `Walk`.)
 use Prim.Native.Nat.{ℕ}
-use mathlib.Core.Bool.{Bool, not, _&&_, _||_}
+use mathlib.Core.Bool.{Bool, _&&_, _||_}
 use mathlib.Core.List.{List}
 use lib.Dec.{eqb}
 use Rattle.base.specs.First.{pick}
@@ -11,7 +11,7 @@ use Rattle.words.specs.Words as words
 use Rattle.lines.specs.declared.Reading.{Reading}
 use Rattle.values.specs.declared.Next.the-variants.{On, Bad}
 use Rattle.values.specs.declared.Turn.{Turn}
-use Rattle.values.specs.Values.{value, word, flagged, requestOf, lengthsOf}
+use Rattle.values.specs.Values.{value, word, flagged, requestOf, lengthsOf, isBad}
 use Rattle.bench.specs.Bench.{leaves, servePoke, isTool, serveTools}
 use Rattle.calls.specs.Calls.{configured, ended, stopped, resumed, pointed, reset, handed, cancelled, retired, reclaimed, begun, storedOne, asked, submitted}
 
@@ -54,7 +54,6 @@ serveCalls e records w values p =
 
 -- ---- a session's words
 
--- "A `ring` after one was made" is bad.
 unfoldable pub serveSession : Endpoint → List ℕ → List ℕ → List ℕ → List ℕ → Reading → List ℕ → Page → All
 serveSession e ring finished records packets r values p =
     let w = r .word in
@@ -64,8 +63,7 @@ serveSession e ring finished records packets r values p =
     pick (eqb w words.eventWord) (a .0, ring, a .1, records, packets, a .2)
     (pick (eqb w words.reclaimWord) (b .0, ring, finished, b .1, b .2, b .3)
     (pick (eqb w words.cancelWord) (d .0, ring, finished, d .1, packets, d .2)
-    (pick (eqb w words.ringWord) (leaves e (p .0) Bad, ring, finished, records, packets, p .1)
-    (asked e ring finished records packets (requestOf w values) (lengthsOf w values (r .count)) p))))
+    (asked e ring finished records packets (requestOf w values) (lengthsOf w values (r .count)) p)))
 
 -- ---- every word
 
@@ -80,11 +78,11 @@ serveAlone e ring finished records packets r values p =
     (pick (isCall w) (b .0, ring, finished, b .1, packets, b .2)
     (pick (isTool w) (d .0, ring, finished, records, packets, d .1) (serveSession e ring finished records packets r values p)))
 
--- A line with a ring made. One that cannot be read is bad.
+-- A line with a ring made.
 unfoldable pub serve : Endpoint → List ℕ → List ℕ → List ℕ → List ℕ → Reading → List ℕ → Page → All
 serve e ring finished records packets r values p =
     let f = servePoke e ring finished records packets (r .word) values (p .0) in
-    pick (not (r .good)) (leaves e (p .0) Bad, ring, finished, records, packets, p .1)
+    pick (isBad r) (leaves e (p .0) Bad, ring, finished, records, packets, p .1)
     (pick (eqb (r .before) 0) (serveAlone e ring finished records packets r values p)
     (pick (eqb (r .before) words.pokeWord) (f .0, f .1, f .2, f .3, f .4, p .1)
     (serveNamed e ring finished records packets r values p)))

@@ -122,13 +122,6 @@ fn serve_session(
     if w == words::CANCEL {
         return calls::cancelled(e, records, first, out, at);
     }
-    if w == words::RING {
-        return Turn {
-            e,
-            at,
-            next: Next::Bad,
-        };
-    }
     let request = values::request_of(w, values);
     let lengths = values::lengths_of(w, values, r.count);
     calls::asked(
@@ -191,7 +184,7 @@ pub fn serve(
 ) -> Turn
     ensures { λ s. ⌜ (s, now (ring .exit), now (finished .exit), now (records .exit), now (packets .exit), now (out .exit)) ≡ serve e (now (ring .entry)) (now (finished .entry)) (now (records .entry)) (now (packets .entry)) r (now (values .entry)) (at, now (out .entry)) ⌝ }
 {
-    if !r.good {
+    if values::is_bad(r) {
         return Turn {
             e,
             at,

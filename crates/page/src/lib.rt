@@ -1,7 +1,20 @@
-// A page: bytes that are to be written. `at` of them stand on it; what no longer fits is left out.
+// A page: bytes that are to be written. `at` of them stand on it. A full page is written out before the next byte, so that none is left out
+// (`nothing-lost`); nobody but `flush` writes.
 ghost use mathlib.Core.Path.{_≡_};
 ghost use Prim.Native.Nat.{_<_};
 ghost use Rattle.page.specs.Page.{put, putAll, decimalField, hexField, flagField, newline};
+
+// What stands on the page is written, and nothing stands there.
+pub fn flush(out: &[u8], at: usize) -> usize
+    ensures { λ r. ⌜ r ≡ 0 ⌝ }
+{
+    if at < out.len() {
+        io::write_all(libc::STDOUT_FILENO, &out[..at]);
+        return 0;
+    }
+    io::write_all(libc::STDOUT_FILENO, out);
+    0
+}
 
 // One byte.
 pub fn put(out: &mut [u8], at: usize, b: u8) -> usize
@@ -11,7 +24,11 @@ pub fn put(out: &mut [u8], at: usize, b: u8) -> usize
         out[at] = b;
         return at + 1;
     }
-    at
+    flush(out, at);
+    if 0 < out.len() {
+        out[0] = b;
+    }
+    1
 }
 
 // Bytes in order.

@@ -27,6 +27,7 @@ use Rattle.dock.specs.declared.Submitted.{Submitted}
 use Rattle.dock.specs.declared.Submitted.the-variants as submitted
 use Rattle.dock.specs.declared.Taken.{Taken}
 use Rattle.dock.specs.declared.Taken.the-variants as taken
+use Rattle.dock.specs.Numbers.{Numbered, outcomeNumber, storedNumber, submittedNumber, takenNumber, reclaimedNumber, resettingNumber, commandNumber, pointedNumber}
 
 -- The words that lines begin with: no, store, bell, taken, cut, done, command, pointer, clear, state, stands, bad.
 abbrev pub noText : List ℕ
@@ -65,19 +66,31 @@ standsText = 115 ∷ 116 ∷ 97 ∷ 110 ∷ 100 ∷ 115 ∷ []
 abbrev pub badText : List ℕ
 badText = 98 ∷ 97 ∷ 100 ∷ []
 
--- A word by itself, and with one number.
-unfoldable pub wordLine : List ℕ → List ℕ
-wordLine name = name ++ newline
+-- Numbers as fields, before the rest of a line.
+unfoldable pub numbersText : List ℕ → List ℕ → List ℕ
+numbersText [] rest = rest
+numbersText (n ∷ ns) rest = decimalField n ++ numbersText ns rest
 
-unfoldable pub numberLine : List ℕ → ℕ → List ℕ
-numberLine name n = name ++ (decimalField n ++ newline)
+-- A word with numbers behind it; by itself, and with one.
+unfoldable pub numbersLine : List ℕ → List ℕ → List ℕ
+numbersLine name ns = name ++ numbersText ns newline
 
--- "A refusal writes `no` and its number (for 8 also the code)."
+abbrev pub wordLine : List ℕ → List ℕ
+wordLine name = numbersLine name []
+
+abbrev pub numberLine : List ℕ → ℕ → List ℕ
+numberLine name n = numbersLine name (n ∷ [])
+
+-- "A refusal writes `no` and its number (for 8 also the code)": the number and the values that Numbers gives the answer.
+abbrev pub refusalLine : Numbered → List ℕ
+refusalLine answer = numbersLine noText (answer .0 ∷ answer .1)
+
+-- A row without values, and a refused completion code.
 abbrev pub noLine : ℕ → List ℕ
-noLine number = numberLine noText number
+noLine row = refusalLine (row, [])
 
-unfoldable pub failedLine : ℕ → List ℕ
-failedLine code = noText ++ (decimalField 8 ++ (decimalField code ++ newline))
+abbrev pub failedLine : ℕ → List ℕ
+failedLine code = refusalLine (reclaimedNumber (reclaimed.Failed code))
 
 -- Words of 32 bits have eight digits.
 unfoldable pub wordsText : Words → List ℕ
@@ -87,32 +100,32 @@ wordsText w = hexField 8 (w .w0) ++ (hexField 8 (w .w1) ++ (hexField 8 (w .w2) +
 unfoldable pub slotLine : List ℕ → ℕ → Words → List ℕ
 slotLine name slot w = name ++ (decimalField slot ++ wordsText w)
 
--- "`bell` is doorbell word, id."
+-- "`bell` is doorbell word, id".
 unfoldable pub bellLine : ℕ → ℕ → List ℕ
 bellLine bell id = bellText ++ (hexField 1 bell ++ (decimalField id ++ newline))
 
 unfoldable pub outcomeLine : List ℕ → Outcome → List ℕ
-outcomeLine name outcome.Done = wordLine name
-outcomeLine name (outcome.Refused number) = noLine number
+outcomeLine name outcome.Done = numbersLine name (outcomeNumber outcome.Done .1)
+outcomeLine name (outcome.Refused row) = refusalLine (outcomeNumber (outcome.Refused row))
 
--- "A cancel writes `cut`, id."
+-- "a cancel writes `cut`, id".
 unfoldable pub cutLine : ℕ → Outcome → List ℕ
 cutLine id outcome.Done = numberLine cutText id
-cutLine id (outcome.Refused number) = noLine number
+cutLine id (outcome.Refused row) = refusalLine (outcomeNumber (outcome.Refused row))
 
 -- A store: the slot and its words as they then stand; behind the last one the bell.
 unfoldable pub storedLines : List ℕ → Stored → List ℕ
 storedLines ring (stored.Slot slot) = slotLine storeText slot (wordsAt ring slot)
 storedLines ring (stored.Last slot id bell) = slotLine storeText slot (wordsAt ring slot) ++ bellLine bell id
-storedLines ring (stored.Refused number) = noLine number
+storedLines ring (stored.Refused row) = refusalLine (storedNumber (stored.Refused row))
 
 unfoldable pub submittedLine : Submitted → List ℕ
 submittedLine (submitted.Done id bell) = bellLine bell id
-submittedLine (submitted.Refused number) = noLine number
+submittedLine (submitted.Refused row) = refusalLine (submittedNumber (submitted.Refused row))
 
 unfoldable pub takenLine : Taken → List ℕ
-takenLine (taken.Place slot) = numberLine takenText slot
-takenLine (taken.Refused number) = noLine number
+takenLine (taken.Place slot) = numbersLine takenText (takenNumber (taken.Place slot) .1)
+takenLine (taken.Refused row) = refusalLine (takenNumber (taken.Refused row))
 
 -- What was counted for packet k of a record; a record that is none has no packets.
 unfoldable pub countedAt : List ℕ → ℕ → ℕ → ℕ
@@ -123,22 +136,18 @@ unfoldable pub lengthsText : ℕ → List ℕ → ℕ → ℕ → List ℕ
 lengthsText zero packets number k = []
 lengthsText (suc left) packets number k = decimalField (countedAt packets number k) ++ lengthsText left packets number (k + 1)
 
--- "`done` is id, length, yes, then any ISO packet lengths." A record has at most 64.
+-- "`done` is id, length, yes, then any ISO packet lengths". A record has at most 64.
 unfoldable pub doneLine : List ℕ → Completion → List ℕ
 doneLine packets c =
-    doneText
-    ++ (decimalField (c .id)
-    ++ (decimalField (c .length)
-    ++ (flagField (c .yes)
-    ++ (lengthsText (min packetCount (c .packets)) packets (c .number) 0 ++ newline))))
+    doneText ++ numbersText (reclaimedNumber (reclaimed.Done c) .1) (lengthsText (min packetCount (c .packets)) packets (c .number) 0 ++ newline)
 
 unfoldable pub reclaimedLine : List ℕ → Reclaimed → List ℕ
 reclaimedLine packets (reclaimed.Done c) = doneLine packets c
-reclaimedLine packets reclaimed.Cancelled = noLine 7
-reclaimedLine packets (reclaimed.Failed code) = failedLine code
-reclaimedLine packets reclaimed.Mismatch = noLine 9
-reclaimedLine packets reclaimed.Nothing = noLine 10
-reclaimedLine packets (reclaimed.Refused number) = noLine number
+reclaimedLine packets reclaimed.Cancelled = refusalLine (reclaimedNumber reclaimed.Cancelled)
+reclaimedLine packets (reclaimed.Failed code) = refusalLine (reclaimedNumber (reclaimed.Failed code))
+reclaimedLine packets reclaimed.Mismatch = refusalLine (reclaimedNumber reclaimed.Mismatch)
+reclaimedLine packets reclaimed.Nothing = refusalLine (reclaimedNumber reclaimed.Nothing)
+reclaimedLine packets (reclaimed.Refused row) = refusalLine (reclaimedNumber (reclaimed.Refused row))
 
 -- The words of a command.
 unfoldable pub commandLine : Words → List ℕ
@@ -147,16 +156,16 @@ commandLine w = commandText ++ wordsText w
 unfoldable pub resettingLines : Resetting → List ℕ
 resettingLines resetting.Clear = wordLine clearText
 resettingLines (resetting.Commands first second) = commandLine first ++ commandLine second
-resettingLines (resetting.Refused number) = noLine number
+resettingLines (resetting.Refused row) = refusalLine (resettingNumber (resetting.Refused row))
 
 unfoldable pub commandedLine : Command → List ℕ
 commandedLine (command.Words w) = commandLine w
-commandedLine (command.Refused number) = noLine number
+commandedLine (command.Refused row) = refusalLine (commandNumber (command.Refused row))
 
 -- Where the producer stands: the address, the cycle.
 unfoldable pub pointedLine : Pointed → List ℕ
 pointedLine (pointed.At p) = pointerText ++ (hexField 1 (p .address) ++ (flagField (p .cycle) ++ newline))
-pointedLine (pointed.Refused number) = noLine number
+pointedLine (pointed.Refused row) = refusalLine (pointedNumber (pointed.Refused row))
 
 -- Place, cycle, outstanding, next id, next frame, halted, reset under way.
 unfoldable pub stateRest : Endpoint → List ℕ

@@ -17,14 +17,6 @@ pub struct Got {
     pub page: usize,
 }
 
-// What stands on the page is written.
-pub fn flush(out: &[u8], at: usize) -> usize {
-    if at <= out.len() {
-        io::write_all(libc::STDOUT_FILENO, &out[..at]);
-    }
-    0
-}
-
 // Where the input stands, and the page.
 pub struct Stand {
     pub from: usize,
@@ -37,7 +29,7 @@ fn more(bytes: &mut [u8], from: usize, have: usize, out: &[u8], page: usize) -> 
     if from < have {
         return Stand { from, have, page };
     }
-    let written = flush(out, page);
+    let written = page::flush(out, page);
     let got = libc::read(libc::STDIN_FILENO, bytes);
     Stand {
         from: 0,
@@ -103,12 +95,4 @@ fn gotten(some: bool, line: Reading, at: usize, have: usize, number: u64, page: 
         input,
         page,
     }
-}
-
-// A page on which much stands is written, so that the next line has room: a request writes some 3,100 bytes, and a drive's `step` at most 376,754.
-pub fn relieve(out: &[u8], at: usize) -> usize {
-    if at < 16384 {
-        return at;
-    }
-    flush(out, at)
 }

@@ -19,7 +19,7 @@ use values::Turn;
 use values::value;
 
 // What a program lends: the words of a ring of 4,096 slots and of its finished table, records and packets, the bytes read, the numbers of a line, and a
-// page with room for the longest answer.
+// page, which is written out where it is full: its size is no limit of what is written.
 pub const WORDS: usize = sizes::TRB_WORDS * sizes::MOST_SLOTS;
 
 pub const RECORDS: usize = sizes::RECORDS_SIZE;
@@ -30,7 +30,7 @@ pub const BYTES: usize = 65536;
 
 pub const VALUES: usize = 4098;
 
-pub const PAGE: usize = 393216;
+pub const PAGE: usize = 65536;
 
 // What stands between two lines: whether a ring is made, its endpoint, and the controller.
 pub struct Bench {
@@ -332,10 +332,10 @@ pub fn run(
             most,
         );
         bench = l.bench;
-        page = input::relieve(out, l.page);
+        page = l.page;
         if l.over {
             break;
         }
     }
-    input::flush(out, page);
+    page::flush(out, page);
 }

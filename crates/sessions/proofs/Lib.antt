@@ -1,2 +1,3 @@
--- A request's line against the whole submission.
+-- A request's line against the whole submission, and what a line writes.
 pub mod WholeLaws
+pub mod LineLaws

@@ -1,1 +1,1 @@
-// Laws of what the lines of a session do, and no code.
+// Laws of what the lines of a session do and write, and no code.

@@ -1,6 +1,6 @@
 -- The values of a line, as the calls take them. The reader has seen to it that each is of its kind, so that nothing is cut here.
 use Prim.Native.Nat.{ℕ, _+_, _-_, _%_, _^_}
-use mathlib.Core.Bool.{Bool, _&&_}
+use mathlib.Core.Bool.{Bool, not, _&&_, _||_}
 use mathlib.Core.List.{List, []}
 use lib.Dec.{eqb, leb, ltb}
 use lib.ListN.{length, getD, take, drop}
@@ -71,3 +71,7 @@ openingOf r values most =
     pick (r .good && (eqb (r .before) 0 && eqb (r .word) ringWord))
     (pick (ltb most (value values 0)) opening.TooLarge opening.Ring)
     opening.Bad
+
+-- A line with a ring made is bad where it cannot be read, or is "a `ring` after one was made".
+unfoldable pub isBad : Reading → Bool
+isBad r = not (r .good) || (eqb (r .before) 0 && eqb (r .word) ringWord)

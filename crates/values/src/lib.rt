@@ -3,7 +3,7 @@
 ghost use mathlib.Core.Path.{_≡_};
 ghost use Prim.Native.Nat.{_%_, _<_};
 ghost use lib.ListN.{length};
-ghost use Rattle.values.specs.Values.{value, byte, half, word, shapeOf, identityOf, whatOf, addressAt, requestOf, lengthsOf, eventOf, openingOf};
+ghost use Rattle.values.specs.Values.{value, byte, half, word, shapeOf, identityOf, whatOf, addressAt, requestOf, lengthsOf, eventOf, openingOf, isBad};
 use dock::Endpoint;
 use dock::Identity;
 use dock::Request;
@@ -172,4 +172,17 @@ pub fn opening_of(r: Reading, values: &[u64], most: u64) -> Opening
         return Opening::TooLarge;
     }
     Opening::Ring
+}
+
+// A line with a ring made is bad where it cannot be read, or is another `ring`.
+pub fn is_bad(r: Reading) -> bool
+    ensures { λ b. ⌜ b ≡ isBad r ⌝ }
+{
+    if !r.good {
+        return true;
+    }
+    if r.before != 0 {
+        return false;
+    }
+    r.word == words::RING
 }

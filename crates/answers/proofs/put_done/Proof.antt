@@ -1,12 +1,12 @@
 -- `put_done` meets its contract. Assumes nothing.
 use Rattle.page.proofs.PageLaws.{then}
-use Rattle.phrases.specs.Text.{doneLine}
+use Rattle.phrases.specs.Text.{numbersText, doneLine}
 use borrow.Author.Needs.{needs}
 use Rattle.answers.proofs.put_done.Statement.{statement}
 use Rattle.answers.proofs.put_done.Tie as tie
 
 returns : tie.Need-returns
-unfolding doneLine
+unfolding numbersText doneLine
 returns c =
     let at-put-lengths = c .before .before .before .before .before .before in
     let at-put-flag = at-put-lengths .before .before .before .before in

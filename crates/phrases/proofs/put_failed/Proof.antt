@@ -1,12 +1,12 @@
 -- `put_failed` meets its contract. Assumes nothing.
 use Rattle.page.proofs.PageLaws.{then}
-use Rattle.phrases.specs.Text.{failedLine}
+use Rattle.phrases.specs.Text.{numbersText, numbersLine}
 use borrow.Author.Needs.{needs}
 use Rattle.phrases.proofs.put_failed.Statement.{statement}
 use Rattle.phrases.proofs.put_failed.Tie as tie
 
 returns : tie.Need-returns
-unfolding failedLine
+unfolding numbersText numbersLine
 returns c =
     let at-put-decimal2 = c .before .before .before .before .before .before in
     let at-put-decimal = at-put-decimal2 .before .before .before .before in

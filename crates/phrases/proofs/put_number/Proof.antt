@@ -1,12 +1,12 @@
 -- `put_number` meets its contract. Assumes nothing.
 use Rattle.page.proofs.PageLaws.{then}
-use Rattle.phrases.specs.Text.{numberLine}
+use Rattle.phrases.specs.Text.{numbersText, numbersLine}
 use borrow.Author.Needs.{needs}
 use Rattle.phrases.proofs.put_number.Statement.{statement}
 use Rattle.phrases.proofs.put_number.Tie as tie
 
 returns : tie.Need-returns
-unfolding numberLine
+unfolding numbersText numbersLine
 returns c =
     let at-put-decimal = c .before .before .before .before .before .before in
     let at-put-text = at-put-decimal .before .before .before .before in

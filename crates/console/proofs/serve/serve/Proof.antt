@@ -11,7 +11,7 @@ use Rattle.console.proofs.serve.serve.Tie as tie
 
 returns : tie.Need-returns
 unfolding serve
-returns c = rw (c .if1 .taken)
+returns c = rw (← c .before .is-bad .ensures, c .if1 .taken)
 
 same-length : tie.Need-same-length
 same-length c =
@@ -44,7 +44,7 @@ returns-2 c =
     let at-serve-alone = c .before .before .before .before .before .before .before .before .before .before in
     let at-if2 = at-serve-alone .before .before .before .before .before .before in
     let at-if1 = at-if2 .before .before in
-    rw (at-if1 .if1 .left, eq-eqb _ _ (at-if2 .if2 .taken)) (at-serve-alone .serve-alone .ensures)
+    rw (← at-if1 .before .is-bad .ensures, at-if1 .if1 .left, eq-eqb _ _ (at-if2 .if2 .taken)) (at-serve-alone .serve-alone .ensures)
 
 same-length-6 : tie.Need-same-length-6
 same-length-6 c =
@@ -75,7 +75,7 @@ returns-3 c =
     let at-if1 = at-if2 .before .before in
     let at-start = at-if1 .before .before .before .before .before .before .before .before in
     let a = at-start .args in
-    rw (at-if1 .if1 .left, ne-eqb _ _ (at-if2 .if2 .left), eq-eqb _ _ (at-if3 .if3 .taken)) (ap (λ (t : Turn × List ℕ × List ℕ × List ℕ × List ℕ). (t .0, t .1, t .2, t .3, t .4, now (a .out))) (at-serve-poke .serve-poke .ensures))
+    rw (← at-if1 .before .is-bad .ensures, at-if1 .if1 .left, ne-eqb _ _ (at-if2 .if2 .left), eq-eqb _ _ (at-if3 .if3 .taken)) (ap (λ (t : Turn × List ℕ × List ℕ × List ℕ × List ℕ). (t .0, t .1, t .2, t .3, t .4, now (a .out))) (at-serve-poke .serve-poke .ensures))
 
 same-length-10 : tie.Need-same-length-10
 same-length-10 c =
@@ -109,12 +109,13 @@ returns-4 c =
     let at-if3 = at-serve-named .before .before .before .before .before .before in
     let at-if2 = at-if3 .before .before in
     let at-if1 = at-if2 .before .before in
-    rw (at-if1 .if1 .left, ne-eqb _ _ (at-if2 .if2 .left), ne-eqb _ _ (at-if3 .if3 .left)) (at-serve-named .serve-named .ensures)
+    rw (← at-if1 .before .is-bad .ensures, at-if1 .if1 .left, ne-eqb _ _ (at-if2 .if2 .left), ne-eqb _ _ (at-if3 .if3 .left)) (at-serve-named .serve-named .ensures)
 
 pub serve-spec : {M : Type 1} → statement M
 serve-spec =
     tie.close
     (tie.spec
+    (λ c κs. tt)
     returns
     (λ c κs. tt)
     same-length

@@ -62,12 +62,6 @@ returns-3 c =
     let a = at-start .args in
     rw (ne-eqb _ _ (at-if1 .if1 .left), ne-eqb _ _ (at-if2 .if2 .left), eq-eqb _ _ (at-if3 .if3 .taken), ← at-value .value .ensures) (ap (λ (t : Turn × List ℕ × List ℕ). (t .0, now (a .ring), now (a .finished), t .1, now (a .packets), t .2)) (at-cancelled .cancelled .ensures))
 
-returns-4 : tie.Need-returns-4
-unfolding serveSession
-returns-4 c =
-    let at-if1 = c .before .before .before in
-    rw (ne-eqb _ _ (at-if1 .if1 .left), ne-eqb _ _ (c .before .before .if2 .left), ne-eqb _ _ (c .before .if3 .left), eq-eqb _ _ (c .if4 .taken))
-
 same-length-9 : tie.Need-same-length-9
 same-length-9 c =
     let at-asked = c .before .before .before .before .before .before .before .before .before .before in
@@ -93,17 +87,16 @@ same-length-13 c =
     let at-asked = c .before .before .before .before .before .before .before .before .before .before in
     at-asked .asked .kept .1 .1 .1 .1 .1 .1 .1 .0
 
-returns-5 : tie.Need-returns-5
+returns-4 : tie.Need-returns-4
 unfolding serveSession
-returns-5 c =
+returns-4 c =
     let at-asked = c .before .before .before .before .before .before .before .before .before .before in
     let at-lengths-of = at-asked .before .before .before .before .before .before in
     let at-request-of = at-lengths-of .before in
-    let at-if4 = at-request-of .before in
-    let at-if3 = at-if4 .before in
+    let at-if3 = at-request-of .before in
     let at-if2 = at-if3 .before in
     let at-if1 = at-if2 .before in
-    rw (ne-eqb _ _ (at-if1 .if1 .left), ne-eqb _ _ (at-if2 .if2 .left), ne-eqb _ _ (at-if3 .if3 .left), ne-eqb _ _ (at-if4 .if4 .left), ← at-request-of .request-of .ensures, ← at-lengths-of .lengths-of .ensures) (at-asked .asked .ensures)
+    rw (ne-eqb _ _ (at-if1 .if1 .left), ne-eqb _ _ (at-if2 .if2 .left), ne-eqb _ _ (at-if3 .if3 .left), ← at-request-of .request-of .ensures, ← at-lengths-of .lengths-of .ensures) (at-asked .asked .ensures)
 
 pub serve-session-spec : {M : Type 1} → statement M
 serve-session-spec =
@@ -124,7 +117,6 @@ serve-session-spec =
     (λ c. c .before .before .before .before .cancelled .kept .1 .0)
     same-length-8
     returns-3
-    returns-4
     (λ c κs. tt)
     (λ c κs. tt)
     (λ c κs. tt)
@@ -133,4 +125,4 @@ serve-session-spec =
     same-length-11
     same-length-12
     same-length-13
-    returns-5)
+    returns-4)

@@ -1,0 +1,2 @@
+-- The readings of `phrases`.
+pub mod Readings
