@@ -32,7 +32,7 @@ use Rattle.dock.specs.Make.{make, makeNo, makeTests, sized}
 use Rattle.dock.specs.Configure.{configure, plainNo, plainTests}
 use Rattle.dock.specs.Start.{startNo, startTests, crowded, tooLong, beyond, charged, recordTaken, idTaken, startedEndpoint, startedRecords, writePackets, start}
 use Rattle.dock.specs.NextStore.{store, storeNo, storeTests, stepped, slotStored, ringStored, finishedStored, settled, storedAnswer}
-use Rattle.dock.specs.Submit.{finish, submit}
+use Rattle.dock.specs.Submit.{submitTests, submitNo, finish, submit}
 use Rattle.dock.specs.HandOver.{slotFor, foreign, handOverNo, handOverTests, handOver}
 use Rattle.dock.specs.Worth.{accepted, counts, worth}
 use Rattle.dock.specs.Reclaim.{leave, mismatched, completeTests, complete, placeOf, reclaimBulk, reclaimControl, closeBelow, total, sweep, reclaimIso, reclaimTests, reclaimNo, reclaimFlying, reclaim}
@@ -226,7 +226,7 @@ w1-read = rw (numbers-are reached many, ledger-made) counted
 -- ---- the law
 
 others-read : allTrue others ≡ true
-unfolding others allTrue w2 w3w4 w5 w6 w7 w8 w9 w10 dockOf ran same tells wordIn asking control bulk iso event make makeNo makeTests sized limitsHold configure plainNo plainTests fits placeFits strays fitsWith nextOf trbOf trbCount deferred chained startNo startTests crowded tooLong beyond charged recordTaken idTaken startedEndpoint startedRecords writePackets start store storeNo storeTests stepped slotStored ringStored finishedStored settled storedAnswer finish submit slotFor foreign handOverNo handOverTests handOver accepted counts worth leave mismatched completeTests complete placeOf reclaimBulk reclaimControl closeBelow total sweep reclaimIso reclaimTests reclaimNo reclaimFlying reclaim masks.held masks.lowest masks.taken masks.freed freeId freeFrom heldBy any findFrom findId recordAt setWord wordsOf wordsAt storeAt isSlot slotOf putWords put burstsOf packetsOf packetAt putPacket finishedAt fillPlace
+unfolding others allTrue w2 w3w4 w5 w6 w7 w8 w9 w10 dockOf ran same tells wordIn asking control bulk iso event make makeNo makeTests sized limitsHold configure plainNo plainTests fits placeFits strays fitsWith nextOf trbOf trbCount deferred chained startNo startTests crowded tooLong beyond charged recordTaken idTaken startedEndpoint startedRecords writePackets start store storeNo storeTests stepped slotStored ringStored finishedStored settled storedAnswer finish submit submitNo submitTests slotFor foreign handOverNo handOverTests handOver accepted counts worth leave mismatched completeTests complete placeOf reclaimBulk reclaimControl closeBelow total sweep reclaimIso reclaimTests reclaimNo reclaimFlying reclaim masks.held masks.lowest masks.taken masks.freed freeId freeFrom heldBy any findFrom findId recordAt setWord wordsOf wordsAt storeAt isSlot slotOf putWords put burstsOf packetsOf packetAt putPacket finishedAt fillPlace
 others-read = refl
 
 -- Every reading holds.

@@ -18,9 +18,9 @@ use Rattle.dock.specs.declared.StoredAll.{StoredAll}
 use Rattle.dock.specs.Numbers.{submittedNumber}
 use Rattle.dock.specs.Requests.{required}
 use Rattle.dock.specs.Start.{crowded, tooLong, isFull, beyond, numberFrom, startNo, recordTaken, charged, startedEndpoint}
-use Rattle.dock.specs.Submit.{submit}
+use Rattle.dock.specs.Submit.{submitNo, submit}
 use Rattle.dock.specs.Run.{State, submits, after, answered, Reached, next}
-use Rattle.dock.proofs.RefusalLaws.{submit-acts, submit-refuses}
+use Rattle.dock.proofs.RefusalLaws.{submit-as-start, submit-acts, submit-refuses}
 use Rattle.dock.proofs.RefusalRowLaws.{start-rows}
 use Rattle.dock.proofs.ReachedSoundLaws.{reached-sound}
 use Rattle.dock.proofs.ReachedFitLaws.{reached-fits-with}
@@ -93,13 +93,17 @@ module _ {s : State} (h : Reached s) (request : Request) (lengths : List ℕ) wh
       let size = ringSize (e .shape .slots) in
       if-so (both (by-eqb (length (s .ring)) size) (by-eqb (length (s .finished)) size)) (reached-sound h .ringLong, reached-sound h .finishedLong)
 
+  -- The whole submission's number is that of its start.
+  same : submitNo e (length (s .ring)) (length (s .finished)) (s .records) (length (s .packets)) request lengths ≡ number
+  same = submit-as-start e (s .ring) (s .finished) (s .records) (s .packets) request lengths fit
+
   -- Where it is 0 the whole submission is done, and its ledger is that of its start, whatever the stores wrote;
   admitted : number ≡ 0 → (answered s (submits request lengths) .0 ≡ 0) × (ledgerOf (whole .0 .endpoint) ≡ taking (ledgerOf e) request lengths)
   unfolding startedEndpoint charged recordTaken
   admitted passed =
       let ringLong = reached-sound h .ringLong in
       let finishedLong = reached-sound h .finishedLong in
-      let acts = submit-acts e (s .ring) (s .finished) (s .records) (s .packets) request lengths fit passed in
+      let acts = submit-acts e (s .ring) (s .finished) (s .records) (s .packets) request lengths (same ∙ passed) in
       let ended = start-finishes e (s .ring) (s .finished) (s .records) (s .packets) request lengths passed ringLong finishedLong in (
         ap (λ (x : StoredAll × List ℕ × List ℕ × List ℕ × List ℕ). submittedNumber (x .0 .answer) .0) acts ∙ rw (ended .answer),
         ap (λ (x : StoredAll × List ℕ × List ℕ × List ℕ × List ℕ). ledgerOf (x .0 .endpoint)) acts
@@ -109,8 +113,8 @@ module _ {s : State} (h : Reached s) (request : Request) (lengths : List ℕ) wh
   -- else it is refused with that number, and the ledger stays.
   refused : (number ≡ 0 → ⊥) → (answered s (submits request lengths) .0 ≡ number) × (ledgerOf (whole .0 .endpoint) ≡ ledgerOf e)
   refused some =
-      let left = submit-refuses e (s .ring) (s .finished) (s .records) (s .packets) request lengths fit some in (
-        ap (λ (x : StoredAll × List ℕ × List ℕ × List ℕ × List ℕ). submittedNumber (x .0 .answer) .0) left,
+      let left = submit-refuses e (s .ring) (s .finished) (s .records) (s .packets) request lengths (λ z. some (sym same ∙ z)) in (
+        ap (λ (x : StoredAll × List ℕ × List ℕ × List ℕ × List ℕ). submittedNumber (x .0 .answer) .0) left ∙ same,
         ap (λ (x : StoredAll × List ℕ × List ℕ × List ℕ × List ℕ). ledgerOf (x .0 .endpoint)) left,
       )
 
