@@ -191,7 +191,7 @@ fn plain(kind: u64, direction: Direction, address: u64, length: u64) -> [u64; RE
 /// record, and [`Nothing`](Refusal::Nothing), which keeps the packet lengths that the reclaim has recorded.
 #[derive(Clone, Copy, Debug, PartialEq, Eq)]
 pub enum Refusal {
-    /// 1: tables of the wrong size, or a state that no call has left.
+    /// 1: tables of the wrong size, or a state or a request that does not fit.
     Unfit,
     /// 2: a reset under way, or no room for the request's TRBs; for a reset, requests in flight.
     QueueFull,
@@ -405,8 +405,9 @@ impl<'a> Ring<'a> {
         answered(number, 0, || Ring { state, tables })
     }
 
-    /// A ring from an endpoint's words and its tables, as [`Ring::into_parts`] gave them. Any words are safe: where one is too wide for its field
-    /// or outside the limits, the calls answer 1.
+    /// A ring from an endpoint's words and its tables, as [`Ring::into_parts`] gave them. Any words are safe: where one is too wide for its field,
+    /// or slots, base, slot id, dci, place or next id is outside the limits, every call answers 1; where a submission is under way that no record
+    /// has, the calls that are lent the records do.
     pub fn from_parts(state: [u64; STATE_WORDS], tables: Tables<'a>) -> Self {
         Ring { state, tables }
     }

@@ -7,6 +7,7 @@ use Rattle.dock.specs.declared.Changed.{Changed}
 use Rattle.dock.specs.declared.Endpoint.{Endpoint}
 use Rattle.dock.specs.declared.Outcome.{Outcome}
 use Rattle.dock.specs.declared.Outcome.the-variants as outcome
+use Rattle.dock.specs.Numbers.{outcomeNumber}
 use Rattle.dock.specs.declared.ReclaimedOne.{ReclaimedOne}
 use Rattle.dock.specs.declared.Request.{Request}
 use Rattle.dock.specs.declared.ResetBegun.{ResetBegun}
@@ -26,7 +27,7 @@ use Rattle.dock.specs.Retire.{retire}
 use Rattle.dock.specs.Reset.{beginReset, endReset}
 use Rattle.dock.specs.Commands.{stop, resume, pointer}
 use Rattle.page.specs.Page.{Page, putAll}
-use Rattle.phrases.specs.Text.{noLine, outcomeLine, cutLine, storedLines, submittedLine, takenLine, reclaimedLine, resettingLines, commandedLine, pointedLine}
+use Rattle.phrases.specs.Text.{refusalLine, outcomeLine, cutLine, storedLines, submittedLine, takenLine, reclaimedLine, resettingLines, commandedLine, pointedLine}
 use Rattle.values.specs.declared.Turn.{Turn}
 use Rattle.calls.specs.declared.StoreTurn.{StoreTurn}
 use Rattle.values.specs.declared.Next.the-variants.{On}
@@ -139,7 +140,7 @@ mostStores = 66
 
 abbrev pub askedBy : Outcome → Endpoint → List ℕ → List ℕ → List ℕ → List ℕ → Page → Turn × List ℕ × List ℕ × List ℕ × List ℕ × List ℕ
 askedBy (outcome.Refused number) e ring finished records packets p =
-    let q = putAll p (noLine number) in (turn e q, ring, finished, records, packets, q .1)
+    let q = putAll p (refusalLine (outcomeNumber (outcome.Refused number))) in (turn e q, ring, finished, records, packets, q .1)
 askedBy outcome.Done e ring finished records packets p =
     let t = stores mostStores e ring finished records packets p in (t .0, t .1, t .2, records, packets, t .3)
 

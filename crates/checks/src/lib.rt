@@ -128,7 +128,7 @@ fn first_fits(e: Endpoint, v: Record) -> bool
     true
 }
 
-// "A store number past its request's stores", or a first place that does not fit.
+// "a store number past its request's stores", or a first place that does not fit.
 pub fn strays(e: Endpoint, records: &[u64]) -> bool
     requires { ⌜ (length (now records) ≡ recordsSize) × (0 < e .shape .slots) ⌝ }
     ensures { λ r. ⌜ r ≡ strays e (now (records .entry)) ⌝ }

@@ -23,7 +23,7 @@ use Rattle.dock.specs.Run.{State, Made, Call, after, Reached, made, next
 unfoldable pub flightPart : List ℕ → Occupancy → ℕ → ℕ
 flightPart records occupancy r = pick (flies records occupancy r) (recordAt records r .count) 0
 
--- "Outstanding": the TRBs of all requests in flight.
+-- "outstanding": the TRBs of all requests in flight.
 unfoldable pub flightSum : List ℕ → Occupancy → ℕ
 flightSum records occupancy = sum recordCount (flightPart records occupancy)
 

@@ -132,7 +132,7 @@ module _ (a : Account) (records : List ℕ) (r : ℕ) (within : r < recordCount)
       (λ q l d. part-same records records (a .occupancy) (masks.freed (a .occupancy) r) q (freed-other q d) refl refl) in
       omega (arith, none, change)
 
-  -- "Takes a request's TRB count off outstanding, never below 0": the count is part of the sum, so that the difference does not stop at 0.
+  -- "takes a request's TRB count off outstanding, never below 0": the count is part of the sum, so that the difference does not stop at 0.
   pub freed-exact : Books a records → flightPart records (a .occupancy) r ≤ a .outstanding
   freed-exact b = omega (arith, b .outstandingSum, freed-sum)
 

@@ -247,7 +247,7 @@ module _ (v : Record) (after : Endpoint) (k : Stepping v after) where
 pub record Placed (s : State) : Type 0 where
   pub placing : placeFits (s .endpoint) ≡ true
   pub straight : strays (s .endpoint) (s .records) ≡ false
-  -- "Outstanding + required above L-2" is refused.
+  -- "outstanding + required above L-2" is refused.
   pub capacity : s .endpoint .account .outstanding ≤ s .endpoint .shape .slots - 2
   -- A record in flight has its first TRB's place below L-1, at most 64 TRBs, and no more recorded than was asked for.
   pub bounds : (r : ℕ) → r < recordCount → flies (s .records) (s .endpoint .account .occupancy) r ≡ true

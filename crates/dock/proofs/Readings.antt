@@ -1,5 +1,6 @@
--- The readings from the bench, W1 to W10 of document 01: each a run of the calls from what making leaves, one table of tests, and one law from it. All but
--- W1 are computed call by call; W1, whose 64 ISO requests are 4,094 stores, by the law `numbers-are` from the ledger of its submissions.
+-- The readings from the bench, W1 to W10 of document 01: each a run of the calls from what making leaves, W9 with its next id set to 2^64-1; one table of
+-- tests, and one law from it. All but W1 are computed call by call; W1, whose 64 ISO requests are 4,094 stores, by the law `numbers-are` from the ledger of
+-- its submissions.
 -- Assumes nothing.
 use Prim.Native.Nat.{ℕ, _+_, _-_, _*_, _^_}
 use mathlib.Core.Bool.{Bool, true, false, not, _&&_, and-eq-true-iff}

@@ -172,7 +172,7 @@ pub control-keeps : (e : Endpoint) (finished records : List ℕ) (number : ℕ) 
     → Measured (recordAt records number) → Measured (recordAt (reclaimControl e finished records (recordAt records number) number .1) number)
 control-keeps e finished records number l long m = control-own number records l long e finished .measured m
 
--- ---- ISO: "the total is the sum"
+-- ---- ISO: "The total is the sum"
 
 pub total-is-sum : (k : ℕ) (packets : List ℕ) (number : ℕ) → total k packets number ≡ sum k (λ (j : ℕ). packetAt packets number j .actual)
 unfolding total sum

@@ -46,7 +46,7 @@ use Rattle.dock.proofs.ReachedSoundLaws.{by-fits-with, Untouched, Looke
 pub outstanding-is-sum : {s : State} → Reached s → s .endpoint .account .outstanding ≡ flightSum (s .records) (s .endpoint .account .occupancy)
 outstanding-is-sum r = reached-sound r .books .outstandingSum
 
--- "Never below 0": what a record adds is part of outstanding, so that the difference is exact.
+-- "never below 0": what a record adds is part of outstanding, so that the difference is exact.
 pub freeing-exact : {s : State} → Reached s → (r : ℕ) → r < recordCount
     → flightPart (s .records) (s .endpoint .account .occupancy) r ≤ s .endpoint .account .outstanding
 freeing-exact {s} h r l = freed-exact (s .endpoint .account) (s .records) r l (reached-sound h .books)

@@ -30,7 +30,7 @@ use Rattle.dock.proofs.RefusalTestLaws.{Fits, by-fits, FitsWith, by-fit
 
 -- ---- the record that an id names
 
--- Record r is held and has the id, and no lower record is and has: "of two records with one id the lower counts".
+-- Record r is held and has the id, and no lower record is and has: "Of two records with one id the lower counts".
 pub record Named (records : List ℕ) (occupancy : Occupancy) (id r : ℕ) : Type 0 where
   pub within : r < recordCount
   pub holds : held occupancy r ≡ true
@@ -139,7 +139,7 @@ by-occupied e records =
     (λ r. both (by-true (held (e .account .occupancy) r)) (by-eqb (recordAt records r .state) inFlight)))
     (negated (by-eqb (e .account .outstanding) 0))
 
--- "Then a reset under way (2)", of an endpoint that is halted.
+-- "then a reset under way (2)", of an endpoint that is halted.
 pub by-resetting : (e : Endpoint) → Decides (e .flags .halted && e .flags .reset) ((e .flags .halted ≡ true) × (e .flags .reset ≡ true))
 by-resetting e = both (by-true (e .flags .halted)) (by-true (e .flags .reset))
 

@@ -154,7 +154,7 @@ module _ (e : Endpoint) (records : List ℕ) where
       (by-false (isNone (nextOf e v))))
       (implied (by-true (deferred v)) (by-ltb (e .work .place + 1) (e .shape .slots))))
 
-  -- "A store number past its request's stores", in a submission that is under way, is none of these.
+  -- "a store number past its request's stores", in a submission that is under way, is none of these.
   pub by-strays : Decides (strays e records) ((e .work .busy ≡ true) × (OnCourse e records → ⊥))
   unfolding strays
   by-strays = both (by-true (e .work .busy)) (negated by-course)
@@ -227,7 +227,7 @@ module _ (incoming : Bool) (size : ℕ) (lengths : List ℕ) where
   unfolding tooLong
   by-too-long-interrupt = by-ltb longest size
 
-  -- "Over 64 packets", one packet over 65,536, "or sum over buffer".
+  -- "over 64 packets", one packet over 65,536, "or sum over buffer".
   pub by-too-long-isoch : Decides (tooLong (Isoch incoming) size lengths) (((packetCount < length lengths) ⊎ SomeOver longest lengths) ⊎ (size < sumOf lengths))
   unfolding tooLong
   by-too-long-isoch = either (either (by-ltb packetCount (length lengths)) (none-over lengths)) (by-ltb size (sumOf lengths))
@@ -249,7 +249,7 @@ by-outside : (s : Slot) → Decides (isOutside s) (s ≡ slot.Outside)
 by-outside (slot.At i) = record { so = λ e. absurd (false≢true e); not-so = λ e k. let z : _≡_ {A = ℕ} 0 1 = cc in omega arith }
 by-outside slot.Outside = record { so = λ e. refl; not-so = λ e k. false≢true (sym e) }
 
--- "Event not type 32, other slot or endpoint id, or address not one of the L slots."
+-- "event not type 32, other slot or endpoint id, or address not one of the L slots."
 pub by-foreign : (e : Endpoint) (w : Words)
     → Decides (foreign e w)
     ((((eventOf w .form ≡ 32 → ⊥) ⊎ (eventOf w .slot ≡ e .who .slot → ⊥)) ⊎ (eventOf w .endpoint ≡ e .who .dci → ⊥))

@@ -57,7 +57,7 @@ module _ (packets : List ℕ) (r : ℕ) (incoming : Bool) (size : ℕ) (lengths 
   packet-room : packetCount * r + length (atLeastOne lengths) ≤ length packets
   packet-room = omega (arith, some-packets lengths (few-packets incoming size lengths short))
 
-  -- An ISO request's packet k asks for the k-th length, "no packets means one packet of length 0", and is unmarked.
+  -- An ISO request's packet k asks for the k-th length, "No packets means one packet of length 0", and is unmarked.
   pub packet-written : (k : ℕ) → k < length (atLeastOne lengths)
       → packetAt (writePackets packets r (Isoch incoming) lengths) r k ≡ asking (getD (atLeastOne lengths) k 0)
   unfolding packetAt writePackets

@@ -37,8 +37,8 @@ use Rattle.dock.proofs.StoreLaws.{flyingRecord, nextStore, steppedNext,
 
 -- ---- from one store to the next
 
--- A submission whose first place is p, at most L-2, stands at p and what is stored, or once the link is stored that much less the L-1 places; and so many stores are
--- enough for what is left of it.
+-- A submission whose first place is p, at most L-2, stands at p and what is stored, or once the link is stored that much less the L-1 places; and so many
+-- stores are enough for what is left of it.
 abbrev pub Enough : ℕ → Endpoint → ℕ → Type 0
 Enough fuel e count =
     (e .work .place + 1 < e .shape .slots)

@@ -1,4 +1,4 @@
--- Cancelling a request: it is marked, and its completion answers 7. "Cancel of an id not in flight" is 6.
+-- Cancelling a request: it is marked, and its completion answers 7. "cancel of an id not in flight" is 6.
 use Prim.Native.Nat.{ℕ}
 use mathlib.Core.Bool.{Bool, true, not}
 use mathlib.Core.List.{List, [], _∷_}

@@ -1,4 +1,4 @@
--- Handing over an event: its place is filled. "Other slot or endpoint id, or address not one of the L slots" is 11.
+-- Handing over an event: its place is filled. "other slot or endpoint id, or address not one of the L slots" is 11.
 use Prim.Native.Nat.{ℕ}
 use mathlib.Core.Bool.{Bool, true, false, not, _&&_, _||_}
 use mathlib.Core.List.{List, [], _∷_}

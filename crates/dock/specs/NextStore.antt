@@ -55,7 +55,7 @@ firstCycle e v = cycleBy (mannerOf e v) (e .at .cycle)
 abbrev pub firstAt : Work → Position
 firstAt w = record { place = w .place; cycle = w .cycle }
 
--- The endpoint after a store; "reaching L-1 it adds a second store, the link at L-1 with the old cycle, then place 0 and the cycle toggled".
+-- The endpoint after a store; "Reaching L-1 it adds a second store, the link at L-1 with the old cycle, then place 0 and the cycle toggled".
 unfoldable pub stepped : Next → Endpoint → Record → List ℕ → Endpoint
 stepped theLink e v packets = withStore e (positionBy Around (e .at)) (e .periodic .frame) (withStored (e .work) (e .work .stored) (e .work .address))
 stepped theTrb e v packets =

@@ -50,19 +50,19 @@ leave e number count halts =
 
 -- ---- a completion
 
--- "Completion of an ISO request whose packet count differs from the lengths given."
+-- "completion of an ISO request whose packet count differs from the lengths given."
 unfoldable pub mismatched : Record → Bool
 mismatched v = eqb (v .kind) isoch && not (eqb (v .count) (v .given))
 
--- "For a completion 7, 9, 8": cancelled, packets that differ, a code that is refused.
+-- "for a completion 7, 9, 8": cancelled, packets that differ, a code that is refused.
 unfoldable pub completeTests : Record → Bool → List (Bool × ℕ)
 completeTests v fails = (v .cancelled, 7) ∷ (mismatched v, 9) ∷ (fails, 8) ∷ []
 
--- "Then any ISO packet lengths": a request of another kind has none, whatever its record says.
+-- "then any ISO packet lengths": a request of another kind has none, whatever its record says.
 abbrev pub packetsTold : Record → ℕ
 packetsTold v = pick (eqb (v .kind) isoch) (v .given) 0
 
--- "A yes says whether it is above 0 and direction in."
+-- "a yes says whether it is above 0 and direction in."
 abbrev pub completion : Record → ℕ → ℕ → Completion
 completion v number size =
     record { id = v .id; length = size; yes = ltb 0 size && v .incoming; number = number; packets = packetsTold v }
@@ -73,7 +73,7 @@ completeAnswer which v number code size =
     (pick (eqb which 9) answer.Mismatch
     (pick (eqb which 8) (answer.Failed code) (answer.Done (completion v number size))))
 
--- The record is freed; "code 6 sets halted", but "a cancelled request that stalls does not set halted".
+-- The record is freed; "code 6 sets halted", but "A cancelled request that stalls does not set halted".
 unfoldable pub complete : Endpoint → Record → ℕ → ℕ → Bool → ℕ → ReclaimedOne
 complete e v number code fails size =
     record {
@@ -90,7 +90,7 @@ final answer.Mismatch = true
 final answer.Nothing = false
 final (answer.Refused row) = false
 
--- "Reclaim of a stopped id" is 7, and the record freed: its TRBs left flight when it was retired.
+-- "reclaim of a stopped id" is 7, and the record freed: its TRBs left flight when it was retired.
 abbrev pub reclaimStopped : Endpoint → Record → ℕ → ReclaimedOne
 reclaimStopped e v number = record { answer = answer.Cancelled; endpoint = leave e number 0 false }
 
@@ -134,7 +134,7 @@ stageBy place.Nothing e v number = onward
 stageBy (place.Event w) e v number =
     pick (accepted (codeOf w)) onward (ends (complete e v number (codeOf w) true 0))
 
--- "A status event completes, with the requested length if no data event came." What was recorded stands one above the length, and 0 is nothing.
+-- "a status event completes, with the requested length if no data event came." What was recorded stands one above the length, and 0 is nothing.
 abbrev pub recordedLength : Record → ℕ → ℕ
 recordedLength v recorded = pick (eqb recorded 0) (v .length) (recorded - 1)
 
@@ -143,7 +143,7 @@ statusBy place.Nothing e v number recorded = nothing e
 statusBy (place.Event w) e v number recorded =
     complete e v number (codeOf w) (not (accepted (codeOf w))) (recordedLength v recorded)
 
--- "A data event records length minus remaining, not below 0." One above a length of 2^64-1 is no word: modulo 2^64 it is 0, which counts as the
+-- "a data event records length minus remaining, not below 0." One above a length of 2^64-1 is no word: modulo 2^64 it is 0, which counts as the
 -- requested length, the same.
 abbrev pub recordedBy : Finished → Record → ℕ
 recordedBy place.Nothing v = v .recorded
@@ -178,7 +178,7 @@ reclaimControl e finished records v number =
       recordsAfter setup records (setWord records number recordedWord recorded),
     )
 
--- ---- ISO: "packet records are read and marked in place in the lent table; when the last packet is found, earlier ones without an event count 0"
+-- ---- ISO: "Packet records are read and marked in place in the lent table; when the last packet is found, earlier ones without an event count 0"
 
 -- A packet that is counted.
 abbrev pub counted : Packet → ℕ → Packet
@@ -236,7 +236,7 @@ reclaimIso e finished packets v number =
 
 -- ---- the call
 
--- "For reclaim, its record in flight with a place above L-2 or over 64 packets."
+-- "for reclaim, its record in flight with a place above L-2 or over 64 packets."
 abbrev pub badRecord : Endpoint → List ℕ → Lookup → Bool
 badRecord e records Nothing = false
 badRecord e records (At r) =

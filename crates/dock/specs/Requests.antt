@@ -17,7 +17,7 @@ kindOf (Bulk incoming) = bulk
 kindOf (Interrupt incoming) = interrupt
 kindOf (Isoch incoming) = isoch
 
--- "Request type (bit 7 is in)."
+-- "request type (bit 7 is in)."
 abbrev pub incomingOf : What → Bool
 incomingOf (Control type request value index) = eqb (bits 7 1 type) 1
 incomingOf (Bulk incoming) = incoming

@@ -15,11 +15,11 @@ use Rattle.dock.specs.RowOne.{fits, flies, fitsWith}
 use Rattle.dock.specs.State.{withFlags}
 use Rattle.dock.specs.Commands.{resetWords, dequeueWords}
 
--- "For reset, requests in flight or outstanding not 0."
+-- "for reset, requests in flight or outstanding not 0."
 unfoldable pub occupied : Endpoint → List ℕ → Bool
 occupied e records = any recordCount (flies records (e .account .occupancy)) || not (eqb (e .account .outstanding) 0)
 
--- "Begin tests requests (2), then is done with none if not halted, then a reset under way (2)."
+-- "begin tests requests (2), then is done with none if not halted, then a reset under way (2)."
 unfoldable pub beginTests : Endpoint → List ℕ → List (Bool × ℕ)
 beginTests e records =
     (not (fitsWith e records), 1)

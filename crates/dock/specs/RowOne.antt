@@ -14,9 +14,12 @@ use Rattle.dock.specs.declared.Endpoint.{Endpoint}
 use Rattle.dock.specs.Limits.{limitsHold}
 use Rattle.dock.specs.Trbs.{trbCount, deferred}
 
--- "Place above L-2 except L-1 just before the link's store": with a submission under way of which a TRB is stored.
+-- "place above L-2 except L-1 just before the link's store": with a submission under way of which a TRB is stored.
+abbrev pub placeStands : ℕ → ℕ → Bool → ℕ → Bool
+placeStands slots place busy stored = ltb (place + 1) slots || (eqb (place + 1) slots && busy && ltb 0 stored)
+
 unfoldable pub placeFits : Endpoint → Bool
-placeFits e = ltb (e .at .place + 1) (e .shape .slots) || (eqb (e .at .place + 1) (e .shape .slots) && e .work .busy && ltb 0 (e .work .stored))
+placeFits e = placeStands (e .shape .slots) (e .at .place) (e .work .busy) (e .work .stored)
 
 -- "L, base, dci or slot id outside the above, place above L-2 .., next id 0": none of it.
 unfoldable pub fits : Endpoint → Bool
@@ -48,11 +51,11 @@ isNone none = true
 abbrev pub flies : List ℕ → Occupancy → ℕ → Bool
 flies records occupancy r = held occupancy r && eqb (recordAt records r .state) inFlight
 
--- The place of a submission's first TRB is one too, at most L-2, where a later store reads it: that of a deferred TD.
+-- The place of a submission's first TRB is a place as well: it is at most L-2 where a later store reads it, in a deferred TD.
 abbrev pub firstFits : Endpoint → Record → Bool
 firstFits e v = not (deferred v) || ltb (e .work .place + 1) (e .shape .slots)
 
--- "A store number past its request's stores": a submission under way whose record is no held one in flight, or whose stores are all made; or one whose first
+-- "a store number past its request's stores": a submission under way whose record is no held one in flight, or whose stores are all made; or one whose first
 -- place does not fit.
 unfoldable pub strays : Endpoint → List ℕ → Bool
 strays e records =

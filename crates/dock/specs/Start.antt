@@ -74,7 +74,7 @@ startNo e records packets request lengths = first (startTests e records packets 
 
 -- ---- what is taken
 
--- "The lowest clear bit is taken."
+-- "the lowest clear bit is taken."
 abbrev pub numberFrom : Found → ℕ
 numberFrom (At i) = i
 numberFrom Full = 0
@@ -82,7 +82,7 @@ numberFrom Full = 0
 unfoldable pub recordTaken : Endpoint → ℕ
 recordTaken e = numberFrom (masks.lowest (e .account .occupancy))
 
--- "The search for a free id starts at the next id and ends at the first one not held."
+-- "the search for a free id starts at the next id and ends at the first one not held."
 unfoldable pub idTaken : Endpoint → List ℕ → ℕ
 idTaken e records = freeIn records (e .account .occupancy) (e .account .next)
 
@@ -101,7 +101,7 @@ abbrev pub atLeastOne : List ℕ → List ℕ
 atLeastOne [] = 0 ∷ []
 atLeastOne (n ∷ ns) = n ∷ ns
 
--- "Writes the record's packets anew, unmarked": the word of an unmarked packet is what it asks for. Only an ISO request has packets.
+-- "writes the record's packets anew, unmarked": the word of an unmarked packet is what it asks for. Only an ISO request has packets.
 unfoldable pub writePackets : List ℕ → ℕ → What → List ℕ → List ℕ
 writePackets packets number (Control type request value index) lengths = packets
 writePackets packets number (Bulk incoming) lengths = packets

@@ -15,7 +15,7 @@ use Rattle.dock.specs.declared.Work.{Work}
 abbrev pub idle : Work
 idle = record { busy = false; number = 0; stored = 0; address = 0; place = 0; cycle = false }
 
--- "Place 0, cycle 1, next id 1, next frame, max packet and burst 0, interval 1, no flag set."
+-- "place 0, cycle 1, next id 1, next frame, max packet and burst 0, interval 1, no flag set."
 abbrev pub fresh : Shape → Identity → Endpoint
 fresh shape who =
     record {

@@ -18,7 +18,7 @@ use Rattle.dock.specs.NextStore.{store}
 
 -- ---- the refusals
 
--- "Tables of the wrong size": also the ring's and the finished table's, for no store could follow; then the start's refusals.
+-- "tables of the wrong size": also the ring's and the finished table's, for no store could follow; then the start's refusals.
 unfoldable pub submitTests : Endpoint → ℕ → ℕ → List ℕ → ℕ → Request → List ℕ → List (Bool × ℕ)
 submitTests e ring finished records packets request lengths =
     (not (eqb ring (ringSize (e .shape .slots)) && eqb finished (ringSize (e .shape .slots))), 1)
@@ -42,7 +42,7 @@ finish (suc n) e ring finished records packets =
     let s = store e ring finished records packets in
     afterStore (s .0 .answer) (s .0 .endpoint) (s .1) (s .2) (λ e ring finished. finish n e ring finished records packets)
 
--- A request's stores: its TRBs, a link, and the first TRB again. "The whole is proved equal to its stores in order."
+-- A request's stores: its TRBs, a link, and the first TRB again. "the whole is proved equal to its stores in order."
 abbrev pub mostStores : Request → ℕ → ℕ
 mostStores request count = required request count + 2
 

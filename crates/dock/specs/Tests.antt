@@ -1,4 +1,5 @@
--- What every call answers, by document 01's rows alone: its tests in order, the number beside the first that holds, 0 where none does, and the values.
+-- What every call answers, by document 01's rows: its tests in order, the number beside the first that holds, 0 where none does; and the values, by the
+-- definitions' own parts.
 -- `answered-is` (proofs/AnsweredLaws) says that it is what the call answers.
 use Prim.Native.Nat.{ℕ}
 use mathlib.Core.Bool.{Bool, true, false, not, _&&_, _||_}
@@ -89,7 +90,7 @@ cameOf s (At r) =
 unfoldable pub cameTo : State → ℕ → Came
 cameTo s id = cameOf s (findIn (s .records) (s .endpoint .account .occupancy) id)
 
--- "Reclaim of an unknown or unfinished id" is 10, "reclaim of a stopped id" 7; "for a completion 7, 9, 8".
+-- "reclaim of an unknown or unfinished id" is 10, "reclaim of a stopped id" 7; "for a completion 7, 9, 8".
 abbrev pub cameTests : Came → List (Bool × ℕ)
 cameTests nowhere = (true, 10) ∷ []
 cameTests toStop = (true, 7) ∷ []

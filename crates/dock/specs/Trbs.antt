@@ -91,6 +91,6 @@ linkFor e v = linkTrb (e .shape .base) (chained e v)
 
 -- ---- the next frame
 
--- "The next frame number moves by the interval modulo 2,048 at each packet's store." "Interval at least 1 (0 is taken as 1)."
+-- "the next frame number moves by the interval modulo 2,048 at each packet's store." "interval at least 1 (0 is taken as 1)."
 abbrev pub frameAfter : ℕ → ℕ → ℕ
 frameAfter frame interval = (frame + max 1 interval) % frames

@@ -8,7 +8,7 @@ use Rattle.base.specs.First.{pick}
 unfoldable pub accepted : ℕ → Bool
 accepted code = eqb code 1 || eqb code 13
 
--- "Length minus remaining, not below 0."
+-- "length minus remaining, not below 0."
 abbrev pub movedBytes : ℕ → ℕ → ℕ
 movedBytes requested remaining = requested - remaining
 
@@ -21,7 +21,7 @@ pub data Worth : Type 0 where
 unfoldable pub counts : ℕ → Bool
 counts code = eqb code 1 || eqb code 3 || eqb code 4 || eqb code 13 || eqb code 23 || eqb code 26 || eqb code 31
 
--- "Requested minus remaining, not below 0; 28: remaining itself; 27: 0; any other: answer 8."
+-- "requested minus remaining, not below 0; 28: remaining itself; 27: 0; any other: answer 8."
 unfoldable pub worth : ℕ → ℕ → ℕ → Worth
 worth code requested remaining =
     pick (counts code) (bytes (movedBytes requested remaining))

@@ -13,7 +13,7 @@ use Rattle.finished.specs.declared.Finished.the-variants.{Nothing, Event
 unfoldable pub finishedAt : List ℕ → ℕ → Finished
 finishedAt finished place = pick (eqb (getD finished (4 * place + 3) 0) 0) Nothing (Event (wordsAt finished place))
 
--- "A TRB's first store clears it."
+-- "a TRB's first store clears it."
 abbrev pub clearPlace : List ℕ → ℕ → List ℕ
 clearPlace finished place = putWords finished place (record { w0 = 0; w1 = 0; w2 = 0; w3 = 0 })
 

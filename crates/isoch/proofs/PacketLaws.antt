@@ -9,6 +9,7 @@ use native.Mathlib.Omega.{arith}
 use Rattle.bursts.specs.Bursts.{burstsOf}
 use Rattle.bursts.specs.declared.Bursts.{Bursts}
 use Rattle.trb.specs.declared.Trb.{Trb}
+use Rattle.ring.specs.declared.Manner.the-variants.{Onward}
 use Rattle.ring.specs.declared.Position.{Position}
 use Rattle.dock.specs.declared.Periodic.{Periodic}
 use Rattle.dock.specs.declared.Shape.{Shape}
@@ -25,7 +26,7 @@ pub packet-is : (shape : Shape) (s : Periodic) (incoming : Bool) (size : ℕ) (m
     {bursts : Bursts} {trb : Trb} {q : Position} {ring₁ finished₁ : List ℕ} {address frame : ℕ}
     → bursts ≡ burstsOf size (s .packet) (s .burst)
     → trb ≡ packetTrb bursts incoming (pen .address) size more
-    → _≡_ {A = Position × List ℕ × List ℕ} (q, ring₁, finished₁) (putTrb shape false (pen .at) trb (pen .at .cycle) ring finished)
+    → _≡_ {A = Position × List ℕ × List ℕ} (q, ring₁, finished₁) (putTrb shape false (pen .at) trb (Onward false) ring finished)
     → address ≡ (pen .address + size) % 2 ^ 64
     → frame ≡ frameAfter (pen .frame) (s .interval)
     → _≡_ {A = Pen × List ℕ × List ℕ} (record { at = q; address = address; frame = frame }, ring₁, finished₁)
@@ -34,7 +35,7 @@ unfolding packetPut
 packet-is shape s incoming size more pen ring finished {bursts} {trb} {q} {ring₁} {finished₁} {address} {frame} counts is stored run moved =
     rw (run, moved)
     (ap (penned s pen size) stored
-    ∙ ap (λ (t : Trb). penned s pen size (putTrb shape false (pen .at) t (pen .at .cycle) ring finished))
+    ∙ ap (λ (t : Trb). penned s pen size (putTrb shape false (pen .at) t (Onward false) ring finished))
     (is ∙ ap (λ (b : Bursts). packetTrb b incoming (pen .address) size more) counts))
 
 -- ---- the packets

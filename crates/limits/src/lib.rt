@@ -1,10 +1,10 @@
 // The limits of a dock as tests on numbers: what making and row 1 of "When the dock says no" read. Every function takes any input.
 ghost use mathlib.Core.Path.{_≡_};
-ghost use mathlib.Core.Bool.{_&&_, _||_};
-ghost use Prim.Native.Nat.{_+_, _*_, _<_};
-ghost use lib.Dec.{eqb, ltb};
+ghost use Prim.Native.Nat.{_*_, _<_};
+ghost use lib.Dec.{eqb};
 ghost use Rattle.sizes.specs.Sizes.{ringSize};
 ghost use Rattle.dock.specs.Limits.{limitsHold};
+ghost use Rattle.dock.specs.RowOne.{placeStands};
 use dock::Identity;
 use dock::Shape;
 
@@ -36,9 +36,9 @@ pub fn limits_hold(shape: Shape, who: Identity) -> bool
     true
 }
 
-// "Place above L-2 except L-1 just before the link's store": the place of the next store.
+// "place above L-2 except L-1 just before the link's store": the place of the next store.
 pub fn stands(slots: usize, place: usize, busy: bool, stored: usize) -> bool
-    ensures { λ r. ⌜ r ≡ (ltb (place + 1) slots || (eqb (place + 1) slots && busy && ltb 0 stored)) ⌝ }
+    ensures { λ r. ⌜ r ≡ placeStands slots place busy stored ⌝ }
 {
     if slots == 0 {
         return false;

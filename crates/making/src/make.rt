@@ -1,4 +1,4 @@
-// Making a ring: "making zeroes the ring, empties all tables".
+// Making a ring: "Making zeroes the ring, empties all tables".
 ghost use mathlib.Core.Path.{_≡_};
 ghost use Rattle.dock.specs.State.{fresh, blank};
 ghost use Rattle.dock.specs.Make.{sized, makeNo, zeros, make};
@@ -81,7 +81,7 @@ pub fn blank() -> Endpoint
     }
 }
 
-// "Place 0, cycle 1, next id 1, next frame, max packet and burst 0, interval 1, no flag set."
+// "place 0, cycle 1, next id 1, next frame, max packet and burst 0, interval 1, no flag set."
 fn fresh(shape: Shape, who: Identity) -> Endpoint
     ensures { λ r. ⌜ r ≡ fresh shape who ⌝ }
 {

@@ -78,7 +78,7 @@ broken s code = endedBy s (s .end) isRefused code
 abbrev pub after : Packet → Standing → Turned
 after p s = record { packet = p; standing = s }
 
--- "When the last packet is found, earlier ones without an event count 0."
+-- "when the last packet is found, earlier ones without an event count 0."
 unfoldable pub closedOf : Packet → Packet
 closedOf p = pick (p .marked) p (counted p 0)
 

@@ -1,11 +1,12 @@
--- What stands on a page, and what was written out of it: nothing that is put on a page is lost, however long it is and whenever the page is flushed.
+-- What stands on a page, and what was written out of it: nothing that is put on a page of at least one byte is lost, however long it is and whenever the
+-- page is flushed.
 -- Assumes nothing.
 use Prim.Native.Nat.{ℕ, _+_, _<_}
 use mathlib.Core.Bool.{Bool, true, false}
 use mathlib.Core.List.{List, [], _∷_, _++_, append-nil, append-assoc}
 use mathlib.Core.Path.{_≡_, refl, sym, ap, _∙_}
 use native.Mathlib.Numerals.{add-one}
-use borrow.Author.Tests.{ltb-true, ltb-false}
+use borrow.Author.Tests.{ltb-true}
 use lib.Dec.{ltb}
 use lib.ListN.{length, set, length-set}
 use lib.Seq.{take-suc-set}

@@ -1,5 +1,5 @@
 // A page: bytes that are to be written. `at` of them stand on it. A full page is written out before the next byte, so that none is left out
-// (`nothing-lost`); nobody but `flush` writes.
+// (`nothing-lost`, of the definitions; that `put` flushes there is run). Nobody but `flush` writes.
 ghost use mathlib.Core.Path.{_≡_};
 ghost use Prim.Native.Nat.{_<_};
 ghost use Rattle.page.specs.Page.{put, putAll, decimalField, hexField, flagField, newline};

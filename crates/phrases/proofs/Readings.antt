@@ -1,4 +1,4 @@
--- The lines of document 01, letter by letter, computed by the definitions: its session whole, and a line of every refusal. Assumes nothing.
+-- The lines of document 01, letter by letter, computed by the definitions: the lines of its session, and lines of refusals. Assumes nothing.
 use Prim.Native.Nat.{ℕ}
 use Prim.Native.Char.{code}
 use Prim.Native.String.{String, [] as none, _∷_ as followed}

@@ -133,7 +133,7 @@ module _ (w : World) (g : Agreed w) (k : Kept w) where
 
 -- ---- the event in a finished place
 
--- It is for TRB number `number`.
+-- TRB number `nth` is the latest that is stored in its slot, and it is consumed.
 pub record EventOf (w : World) (i : ℕ) (event : Words) : Type 0 where
   pub nth : ℕ
   pub there : slotOf (slots w) nth ≡ i

@@ -53,6 +53,7 @@ isochTrbs incoming packet burst address (n ∷ ns) =
 pub record Settings : Type 0 where
   pub packet : ℕ
   pub burst : ℕ
+  -- no TRB has it: with bit 31 on the frame id is 0
   pub interval : ℕ
 
 -- Those of a dock that is made: "next frame, max packet and burst 0, interval 1".

@@ -42,7 +42,7 @@ fn slot_for(e: Endpoint, w: Words) -> Slot
     ring::slot_of(e.shape.base, e.shape.slots, event.address)
 }
 
-// "Event not type 32, other slot or endpoint id, or address not one of the L slots."
+// "event not type 32, other slot or endpoint id, or address not one of the L slots."
 fn is_foreign(e: Endpoint, w: Words) -> bool
     ensures { λ r. ⌜ r ≡ foreign e w ⌝ }
 {

@@ -24,7 +24,7 @@ pub fn kind_of(what: What) -> u64
     }
 }
 
-// "Request type (bit 7 is in)."
+// "request type (bit 7 is in)."
 pub fn incoming_of(what: What) -> bool
     ensures { λ r. ⌜ r ≡ incomingOf what ⌝ }
 {

@@ -59,7 +59,7 @@ enqueAgain ring p trb = storeAt ring (p .place) trb (p .cycle)
 abbrev pub linkTrb : ℕ → Bool → Trb
 linkTrb base chain = Link base true chain
 
--- "The link at L-1 with the old cycle, then place 0 and the cycle toggled."
+-- "the link at L-1 with the old cycle, then place 0 and the cycle toggled."
 abbrev pub nextIndex : List ℕ → Position → ℕ → Bool → Position × List ℕ
 nextIndex ring p base chain = (around p, storeAt ring (p .place) (linkTrb base chain) (p .cycle))
 

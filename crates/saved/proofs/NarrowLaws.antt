@@ -21,7 +21,7 @@ use Rattle.dock.specs.Configure.{plainNo, configure}
 use Rattle.dock.specs.Limits.{limitsHold}
 use Rattle.dock.specs.Make.{makeTests, makeNo, make}
 use Rattle.dock.specs.NextStore.{frameOn, stepped, settled, storeNo, store}
-use Rattle.dock.specs.Reclaim.{leave, nothing, reclaim}
+use Rattle.dock.specs.Reclaim.{leave, reclaim}
 use Rattle.dock.specs.Reset.{beginNo, beginReset, endNo, endReset}
 use Rattle.dock.specs.Retire.{recordNo, retire}
 use Rattle.dock.specs.RowOne.{Next, theLink, theTrb, theFirst, none, nextOf, isNone}

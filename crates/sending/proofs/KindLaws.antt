@@ -7,6 +7,7 @@ use mathlib.Core.Bool.{Bool, true, false}
 use mathlib.Core.List.{List}
 use mathlib.Core.Path.{_≡_, ap}
 use Rattle.trb.specs.declared.Trb.{Trb}
+use Rattle.ring.specs.declared.Manner.the-variants.{Onward}
 use Rattle.ring.specs.declared.Position.{Position}
 use Rattle.sizes.specs.Sizes.{packetCount, isoch}
 use Rattle.records.specs.declared.Record.{Record}
@@ -30,7 +31,7 @@ module _ (e : Endpoint) (v : Record) (ring finished : List ℕ) where
   plain-deferred link late = rw (link, late)
 
   pub plain-other : {chain : Bool} {trb : Trb} → chain ≡ chained e v → deferred v ≡ false → trb ≡ normalTrb e v
-      → putTrb (e .shape) chain (e .at) trb (e .at .cycle) ring finished ≡ plainPut e v ring finished
+      → putTrb (e .shape) chain (e .at) trb (Onward false) ring finished ≡ plainPut e v ring finished
   unfolding plainPut
   plain-other link early is = rw (link, early, is)
 

@@ -9,6 +9,7 @@ use borrow.Author.Tests.{eq-eqb, ne-eqb, lt-ltb}
 use lib.Dec.{eqb}
 use lib.ListN.{length, getD}
 use Rattle.base.proofs.Compare.{same-or-not}
+use Rattle.ring.specs.declared.Manner.the-variants.{Onward}
 use Rattle.ring.specs.declared.Position.{Position}
 use Rattle.packets.specs.Packets.{packetAt}
 use Rattle.sizes.specs.Sizes.{ringSize, recordCount, packetsSize, isoch}
@@ -102,7 +103,7 @@ module _ (e : Endpoint) (v : Record) (asked ring finished : List ℕ) where
   staged k s = (withStore e (s .0) (e .periodic .frame) (withStored (e .work) k (e .work .address)), s .1, s .2)
 
   abbrev hiddenFirst : Position × List ℕ × List ℕ
-  hiddenFirst = putTrb (e .shape) (chained e v) (e .at) (firstOf v) (not (e .at .cycle)) ring finished
+  hiddenFirst = putTrb (e .shape) (chained e v) (e .at) (firstOf v) (Onward true) ring finished
 
   abbrev Staged : ℕ → Type 0
   Staged n = strides n e v asked ring finished ≡ staged n (stagesPut (e .shape) (chained e v) v hiddenFirst)

@@ -20,7 +20,7 @@ use mask::Found;
 use mask::Occupancy;
 use records::Record;
 
-// "The lowest clear bit is taken."
+// "the lowest clear bit is taken."
 fn record_taken(occupancy: Occupancy) -> usize
     ensures { λ r. ⌜ (r ≡ numberFrom (lowest occupancy)) × (r < recordCount) ⌝ }
 {
@@ -56,7 +56,7 @@ fn write_lengths(packets: &mut [u64], number: usize, lengths: &[u64])
     copy_lengths(packets, start, lengths);
 }
 
-// "Writes the record's packets anew, unmarked." Only an ISO request has packets.
+// "writes the record's packets anew, unmarked." Only an ISO request has packets.
 fn write_packets(packets: &mut [u64], number: usize, what: What, lengths: &[u64])
     requires { ⌜ (packetCount * number + packetCount ≤ length (now packets)) × (givenOf what (length (now lengths)) ≤ packetCount) ⌝ }
     ensures { λ _. ⌜ now (packets .exit) ≡ writePackets (now (packets .entry)) number what (now (lengths .entry)) ⌝ }

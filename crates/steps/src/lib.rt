@@ -29,7 +29,7 @@ pub fn idle() -> Work
     }
 }
 
-// "Interval at least 1 (0 is taken as 1)."
+// "interval at least 1 (0 is taken as 1)."
 pub fn at_least_one(interval: u8) -> u8
     ensures { λ r. ⌜ r ≡ max 1 interval ⌝ }
 {
@@ -63,7 +63,7 @@ pub fn with_stored(w: Work, stored: usize, address: u64) -> Work
     }
 }
 
-// "The next frame number moves by the interval modulo 2,048 at each packet's store."
+// "the next frame number moves by the interval modulo 2,048 at each packet's store."
 pub fn frame_after(frame: u16, interval: u8) -> u16
     ensures { λ r. ⌜ r ≡ frameAfter frame interval ⌝ }
 {

@@ -1,13 +1,13 @@
 -- One TRB with the current cycle, and a deferred TD.
 use Prim.Native.Nat.{ℕ}
-use mathlib.Core.Bool.{Bool, not}
+use mathlib.Core.Bool.{Bool, true, false}
 use mathlib.Core.List.{List}
 use lib.Dec.{eqb}
 use lib.ListN.{length}
 use Rattle.base.specs.First.{pick}
 use Rattle.trb.specs.declared.Trb.{Trb}
 use Rattle.ring.specs.Ring.{ringBy}
-use Rattle.ring.specs.declared.Manner.the-variants.{Again}
+use Rattle.ring.specs.declared.Manner.the-variants.{Onward, Again}
 use Rattle.ring.specs.declared.Position.{Position}
 use Rattle.records.specs.declared.Record.{Record}
 use Rattle.dock.specs.declared.Shape.{Shape}
@@ -16,7 +16,7 @@ use Rattle.trbs.specs.Trbs.{firstOf}
 use Rattle.striding.specs.Stride.{putTrb}
 
 abbrev pub putSame : Shape → Bool → Position → Trb → List ℕ → List ℕ → Position × List ℕ × List ℕ
-putSame shape chain p trb ring finished = putTrb shape chain p trb (p .cycle) ring finished
+putSame shape chain p trb ring finished = putTrb shape chain p trb (Onward false) ring finished
 
 -- The rest of a control TD: data where there is any, then status.
 unfoldable pub stagesPut : Shape → Bool → Record → Position × List ℕ × List ℕ → Position × List ℕ × List ℕ
@@ -26,5 +26,5 @@ stagesPut shape chain v s =
 -- "A control TD stores its setup with the opposite cycle, the rest as usual, then the setup again with the right one."
 unfoldable pub deferredPut : Shape → Bool → Position → Record → List ℕ → List ℕ → Position × List ℕ × List ℕ
 deferredPut shape chain p v ring finished =
-    let s = stagesPut shape chain v (putTrb shape chain p (firstOf v) (not (p .cycle)) ring finished) in
+    let s = stagesPut shape chain v (putTrb shape chain p (firstOf v) (Onward true) ring finished) in
     (s .0, ringBy Again (s .1) p (firstOf v), s .2)

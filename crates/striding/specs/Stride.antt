@@ -6,7 +6,8 @@ use mathlib.Core.List.{List}
 use lib.Dec.{eqb}
 use Rattle.base.specs.First.{pick}
 use Rattle.trb.specs.declared.Trb.{Trb}
-use Rattle.ring.specs.Ring.{storeAt, onward, positionBy, ringBy, linkTrb}
+use Rattle.ring.specs.Ring.{positionBy, ringBy, linkTrb}
+use Rattle.ring.specs.declared.Manner.{Manner}
 use Rattle.ring.specs.declared.Manner.the-variants.{Around, Again}
 use Rattle.ring.specs.declared.Position.{Position}
 use Rattle.finished.specs.Finished.{clearPlace}
@@ -16,7 +17,7 @@ use Rattle.dock.specs.declared.Shape.{Shape}
 use Rattle.dock.specs.declared.StoredAll.{StoredAll}
 use Rattle.dock.specs.declared.Submitted.the-variants.{Done}
 use Rattle.dock.specs.State.{idle, withStore}
-use Rattle.dock.specs.NextStore.{withStored, runOn, frameOn, firstCycle, firstAt}
+use Rattle.dock.specs.NextStore.{withStored, runOn, frameOn, mannerOf, firstAt}
 use Rattle.dock.specs.Trbs.{trbOf, deferred, firstTrb, chained}
 
 -- "Reaching L-1 it adds a second store, the link at L-1 with the old cycle, then place 0 and the cycle toggled": the position,
@@ -30,14 +31,14 @@ linkedRing shape chain p ring = pick (eqb (p .place + 1) (shape .slots)) (ringBy
 unfoldable pub linkOn : Shape → Bool → Position → List ℕ → Position × List ℕ
 linkOn shape chain p ring = (linked (shape .slots) p, linkedRing shape chain p ring)
 
--- A TRB with a cycle at the place, its place in the finished table cleared, and the link where it is due.
-unfoldable pub putTrb : Shape → Bool → Position → Trb → Bool → List ℕ → List ℕ → Position × List ℕ × List ℕ
-putTrb shape chain p trb cycle ring finished =
-    (linked (shape .slots) (onward p), linkedRing shape chain (onward p) (storeAt ring (p .place) trb cycle), clearPlace finished (p .place))
+-- A TRB at the place, by a manner of ring's, its place in the finished table cleared, and the link where it is due.
+unfoldable pub putTrb : Shape → Bool → Position → Trb → Manner → List ℕ → List ℕ → Position × List ℕ × List ℕ
+putTrb shape chain p trb manner ring finished =
+    let q = positionBy manner p in (linked (shape .slots) q, linkedRing shape chain q (ringBy manner ring p trb), clearPlace finished (p .place))
 
 -- The next TRB of the submission under way, so.
 abbrev pub nextPut : Endpoint → Record → List ℕ → List ℕ → List ℕ → Position × List ℕ × List ℕ
-nextPut e v packets ring finished = putTrb (e .shape) (chained e v) (e .at) (trbOf e v packets (e .work .stored)) (firstCycle e v) ring finished
+nextPut e v packets ring finished = putTrb (e .shape) (chained e v) (e .at) (trbOf e v packets (e .work .stored)) (mannerOf e v) ring finished
 
 -- The endpoint behind it, which stands at p.
 abbrev pub strode : Endpoint → Record → List ℕ → Position → Endpoint

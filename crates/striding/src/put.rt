@@ -1,8 +1,9 @@
 // One TRB: its store, its place in the finished table cleared, and the TD's link behind it, chained or not, where the place reaches L-1.
 ghost use mathlib.Core.Path.{_≡_};
-ghost use mathlib.Core.Bool.{not};
+ghost use mathlib.Core.Bool.{true, false};
 ghost use Prim.Native.Nat.{_+_, _*_, _≤_, _<_};
 ghost use lib.ListN.{length};
+ghost use Rattle.ring.specs.declared.Manner.the-variants.{Onward};
 ghost use Rattle.striding.specs.Stride.{linkOn, putTrb};
 use dock::Shape;
 use ring::Position;
@@ -29,7 +30,7 @@ pub fn put_trb(
     trb: Trb,
 ) -> Position
     requires { ⌜ (4 * shape .slots ≤ length (now ring)) × (4 * shape .slots ≤ length (now finished)) × (2 ≤ shape .slots) × (p .place + 1 < shape .slots) ⌝ }
-    ensures { λ r. ⌜ ((r, now (ring .exit), now (finished .exit)) ≡ putTrb shape chain p trb (p .cycle) (now (ring .entry)) (now (finished .entry))) × (r .place + 1 < shape .slots) ⌝ }
+    ensures { λ r. ⌜ ((r, now (ring .exit), now (finished .exit)) ≡ putTrb shape chain p trb (Onward false) (now (ring .entry)) (now (finished .entry))) × (r .place + 1 < shape .slots) ⌝ }
 {
     finished::clear_finished(finished, p.place);
     let q = ring::enque_transfer(ring, p, trb);
@@ -46,7 +47,7 @@ pub fn put_deferred(
     trb: Trb,
 ) -> Position
     requires { ⌜ (4 * shape .slots ≤ length (now ring)) × (4 * shape .slots ≤ length (now finished)) × (2 ≤ shape .slots) × (p .place + 1 < shape .slots) ⌝ }
-    ensures { λ r. ⌜ ((r, now (ring .exit), now (finished .exit)) ≡ putTrb shape chain p trb (not (p .cycle)) (now (ring .entry)) (now (finished .entry))) × (r .place + 1 < shape .slots) ⌝ }
+    ensures { λ r. ⌜ ((r, now (ring .exit), now (finished .exit)) ≡ putTrb shape chain p trb (Onward true) (now (ring .entry)) (now (finished .entry))) × (r .place + 1 < shape .slots) ⌝ }
 {
     finished::clear_finished(finished, p.place);
     let q = ring::enque_transfer_deferred_cycle(ring, p, trb);

@@ -229,7 +229,7 @@ formOf full before w =
 
 -- ---- what a kind is
 
--- "Addresses, words and control fields in hex, counts and ids in decimal."
+-- "addresses, words and control fields in hex, counts and ids in decimal."
 unfoldable pub isHex : ℕ → Bool
 isHex kind = eqb kind address || (eqb kind hex8 || (eqb kind hex16 || eqb kind hex32))
 

@@ -1,11 +1,12 @@
 -- `put_deferred` meets its contract: the place cleared, the TRB stored, the link where it is due. Assumes nothing.
-use mathlib.Core.Bool.{not}
+use mathlib.Core.Bool.{true}
 use denote.Ref.{now}
 use Rattle.striding.proofs.PutLaws.{put-is}
 use native.Mathlib.Omega.{arith}
 use mathlib.Core.Path.{ap}
 use mathlib.Core.List.{List}
 use Prim.Native.Nat.{ℕ}
+use Rattle.ring.specs.declared.Manner.the-variants.{Onward}
 use Rattle.ring.specs.declared.Position.{Position}
 use borrow.Author.Needs.{needs}
 use Rattle.striding.proofs.put.put_deferred.Statement.{statement}
@@ -21,7 +22,7 @@ returns c =
     let at-clear-finished = at-enque-transfer-deferred-cycle .before .before .before .before in
     let at-start = at-clear-finished .before .before .before .before in
     let a = at-start .args in
-    (put-is (a .shape) (a .chain) (a .p) (a .trb) (not (a .p .cycle)) (now (a .ring)) (now (a .finished)) (at-clear-finished .clear-finished .ensures) (at-enque-transfer-deferred-cycle .enque-transfer-deferred-cycle .ensures) (c .before .before .link-on .ensures .0), c .before .before .link-on .ensures .1)
+    (put-is (a .shape) (a .chain) (a .p) (a .trb) (Onward true) (now (a .ring)) (now (a .finished)) (at-clear-finished .clear-finished .ensures) (at-enque-transfer-deferred-cycle .enque-transfer-deferred-cycle .ensures) (c .before .before .link-on .ensures .0), c .before .before .link-on .ensures .1)
 
 pub put-deferred-spec : {M : Type 1} → statement M
 put-deferred-spec =
