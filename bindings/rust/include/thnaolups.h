@@ -23,11 +23,12 @@
  *   5 buffer out of the controller's reach  12 a submission's stores are under way
  *   6 id not in flight                      13 outside the limits of a ring
  *
- * Any numbers are safe, and so are slices of any length: a length that does not fit is answered 1 and leaves everything. So is a word of
- * the endpoint or of a request that is too wide for its field; none is cut. The narrow ones are slot id, dci, burst and interval (8 bits), max packet size and next frame (16)
- * of the endpoint, and type and request (8), value and index (16) of a control request. thn_make reads no word of the endpoint, and answers 13
- * before 1. An answer but 0, 7, 8 and 9 leaves the endpoint's words. What the caller owes is C's own: each pointer is valid for its length,
- * aligned and not NULL (also where the length is 0), and no slice that is written overlaps another one.
+ * Any numbers are safe, and so are slices of any length: a length that does not fit is answered 1 and leaves everything. So is a word of the
+ * endpoint or of a request that is too wide for its field; none is cut. The narrow ones are slot id, dci, burst and interval (8 bits), max
+ * packet size and next frame (16) of the endpoint, and type and request (8), value and index (16) of a control request. thn_make reads no
+ * word of the endpoint, and answers 13 before 1. An answer but 0, 7, 8 and 9 leaves the endpoint's words. What the caller owes is C's own:
+ * each pointer is valid for its length, aligned and not NULL (also where the length is 0), and no slice that is written overlaps another
+ * one.
  */
 #ifndef THNAOLUPS_H
 #define THNAOLUPS_H
@@ -83,8 +84,7 @@ uint32_t thn_hand_over(
     uint32_t *finished, size_t finished_len, uint32_t w0, uint32_t w1, uint32_t w2, uint32_t w3);
 
 /* Reclaims a request by its id. Values: the id, the bytes moved, 1 where there are any and they came in, the record whose
- * packet words hold the lengths, and how many packets (0 but for an
- * isochronous request). 8 (code refused): the code. */
+ * packet words hold the lengths, and how many packets (0 but for an isochronous request). 8 (code refused): the code. */
 uint32_t thn_reclaim(
     uint64_t *state, size_t state_len, uint64_t *answer, size_t answer_len,
     const uint32_t *finished, size_t finished_len, uint64_t *records, size_t records_len,
