@@ -47,10 +47,27 @@ pub use raw::{ANSWER_WORDS, PACKETS, RECORD_COUNT, RECORD_WORDS, REQUEST_WORDS, 
 
 /// The words of a slot of the ring, and of a place of the finished table.
 pub const SLOT_WORDS: usize = 4;
+/// The bytes of a slot of the ring.
+pub const SLOT_BYTES: usize = 16;
 /// The least slots of a ring.
 pub const LEAST_SLOTS: usize = 3;
 /// The most slots of a ring.
 pub const MOST_SLOTS: usize = 4096;
+/// The alignment to ask an allocator for: a ring of so many slots at any multiple of it, below 2^64, is within the limits of [`Place::base`].
+///
+/// ```
+/// assert_eq!(thnaolups::alignment(256), 4096);
+/// assert_eq!(thnaolups::alignment(257), 8192);
+/// assert_eq!(thnaolups::alignment(4096), 65536);
+/// ```
+pub const fn alignment(slots: usize) -> usize {
+    let mut align = 4096;
+    while align < 65536 && align / SLOT_BYTES < slots {
+        align *= 2;
+    }
+    align
+}
+
 /// The words of the request records.
 pub const RECORDS_SIZE: usize = RECORD_COUNT * RECORD_WORDS;
 /// The words of the packet records.
@@ -74,7 +91,7 @@ pub struct Tables<'a> {
 pub struct Place {
     /// The slots of the ring, the link's included: 3 to 4,096.
     pub slots: usize,
-    /// The bus address of slot 0, a multiple of 4,096.
+    /// The bus address of slot 0: a multiple of 4,096 from which on the ring crosses no multiple of 65,536. [`alignment`] says how to get one.
     pub base: u64,
     /// The highest address that the controller reaches.
     pub mask: u64,

@@ -1,5 +1,5 @@
 //! Every call through the boundary, on stored sessions in the format of the program `drive`: those of this folder (document 01's worked
-//! session and readings, its answers as the paper has them), and those that the repository keeps of the Rust's own answers.
+//! session and readings, its answers as the paper has them), the repository's examples, and those that it keeps of the Rust's own answers.
 mod drive;
 
 use std::{fs, path::Path};
@@ -33,6 +33,18 @@ fn sessions() {
 
 /// How many there are.
 const SESSIONS: usize = 1;
+
+/// The examples of the repository in this format.
+#[test]
+fn examples() {
+    let folder = Path::new(env!("CARGO_MANIFEST_DIR")).join("../../examples");
+    let mut names: Vec<_> = fs::read_dir(folder).unwrap().map(|entry| entry.unwrap().path()).collect();
+    names.retain(|path| path.extension().is_some_and(|e| e == "drive"));
+    assert!(!names.is_empty(), "no example found");
+    for name in names {
+        replay(&name, &name.with_extension("out"));
+    }
+}
 
 /// The repository's own: the stored input and output of every program that speaks this format, the Rust's answers among them.
 /// `THNAOLUPS_SAMPLES` names further folders with a `stdin` and a `stdout`.

@@ -325,6 +325,8 @@ fn making_knows_13_then_1() {
             (2, 0x1_0000, 1, 1, 13),
             (4097, 0x1_0000, 1, 1, 13),
             (5, 0x1_0800, 1, 1, 13),
+            (257, 0xf000, 1, 1, 13),
+            (256, 0xf000, 1, 1, 1),
             (5, 0x1_0000, 0, 1, 13),
             (5, 0x1_0000, 1, 0, 13),
             (5, 0x1_0000, 1, 32, 13),
@@ -349,6 +351,30 @@ fn making_knows_13_then_1() {
             );
             assert_eq!(no, answer, "{length} words, {slots} slots at {base:x}, slot id {slot}, dci {dci}");
             assert_eq!(before, l);
+        }
+    }
+}
+
+/// An endpoint whose slots and base are forged: every call but making answers 1 where its ring crosses a multiple of 65,536, and none does where the
+/// ring ends there.
+#[test]
+fn a_forged_ring_at_a_boundary() {
+    for (slots, base, fits) in [
+        (257, 0xf000, false),
+        (256, 0xf000, true),
+        (4096, 0xf000, false),
+        (4096, 0x1_1000, false),
+        (4096, 0x1_0000, true),
+    ] {
+        for number in 1..CALLS {
+            let mut lent = made();
+            (lent.state[2], lent.state[3]) = (slots, base);
+            resize(&mut lent, RING, 4 * slots as usize);
+            resize(&mut lent, FINISHED, 4 * slots as usize);
+            let before = lent.clone();
+            let no = call(number, &mut lent);
+            assert_eq!(no != 1, fits, "call {number}, {slots} slots at {base:x}");
+            assert!(fits || same_but_answer(&before, &lent), "call {number}, {slots} slots at {base:x}");
         }
     }
 }

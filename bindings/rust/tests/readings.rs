@@ -1,5 +1,8 @@
 //! Document 01's "Readings from the bench", W1 to W10, through the typed interface.
-use thnaolups::{Direction::In, Place, Refusal, Request, Ring, Stored, Tables, Words, MOST_SLOTS, PACKETS_SIZE, RECORDS_SIZE, SLOT_WORDS};
+use thnaolups::{
+    alignment, Answer, Direction::In, Place, Refusal, Request, Ring, Stored, Tables, Words, LEAST_SLOTS, MOST_SLOTS, PACKETS_SIZE, RECORDS_SIZE,
+    SLOT_WORDS,
+};
 
 /// Tables for the largest ring.
 struct Desk {
@@ -21,6 +24,10 @@ impl Desk {
 
     /// A ring of so many slots at 10000 for slot id 1 and endpoint 1, whose controller reaches 32 bits.
     fn ring(&mut self, slots: usize) -> Ring<'_> {
+        self.ring_at(slots, 0x1_0000).unwrap()
+    }
+
+    fn ring_at(&mut self, slots: usize, base: u64) -> Answer<Ring<'_>> {
         let tables = Tables {
             ring: &mut self.ring[..SLOT_WORDS * slots],
             finished: &mut self.finished[..SLOT_WORDS * slots],
@@ -29,12 +36,12 @@ impl Desk {
         };
         let place = Place {
             slots,
-            base: 0x1_0000,
+            base,
             mask: 0xffff_ffff,
             slot: 1,
             dci: 1,
         };
-        Ring::make(tables, place).unwrap()
+        Ring::make(tables, place)
     }
 }
 
@@ -284,6 +291,20 @@ fn kinds_and_directions() {
     }
 }
 
+/// Every number of slots, at the first and the last multiple of its alignment and at some between.
+#[test]
+fn a_ring_at_its_alignment() {
+    let mut desk = Desk::new();
+    for slots in LEAST_SLOTS..=MOST_SLOTS {
+        let align = alignment(slots) as u64;
+        for base in [0, align, 3 * align, 15 * align, align.wrapping_neg()] {
+            assert!(desk.ring_at(slots, base).is_ok(), "{slots} slots at {base:x}");
+        }
+    }
+    assert_eq!(alignment(0), 4096);
+    assert_eq!(alignment(usize::MAX), 65536);
+}
+
 #[test]
 fn a_ring_outside_the_limits() {
     let mut desk = Desk::new();
@@ -304,6 +325,7 @@ fn a_ring_outside_the_limits() {
         Ring::make(tables, place).err()
     };
     assert_eq!(refused(&mut desk, place), None);
+    assert_eq!(refused(&mut desk, Place { base: u64::MAX - 0xffff, ..place }), None);
     let outside = Some(Refusal::OutsideLimits);
     assert_eq!(refused(&mut desk, Place { slots: 2, ..place }), outside);
     assert_eq!(refused(&mut desk, Place { slots: 4097, ..place }), outside);
@@ -311,6 +333,9 @@ fn a_ring_outside_the_limits() {
     assert_eq!(refused(&mut desk, Place { slot: 0, ..place }), outside);
     assert_eq!(refused(&mut desk, Place { dci: 0, ..place }), outside);
     assert_eq!(refused(&mut desk, Place { dci: 32, ..place }), outside);
+    // across a multiple of 65,536
+    assert_eq!(refused(&mut desk, Place { base: 0xf000, ..place }), outside);
+    assert_eq!(refused(&mut desk, Place { base: 0x1_1000, ..place }), outside);
     // within the limits, but the tables are those of another ring
     assert_eq!(refused(&mut desk, Place { slots: 4095, ..place }), Some(Refusal::Unfit));
 }

@@ -1,6 +1,7 @@
 -- The laws of the definitions, the states that are reached from making, and the readings from the bench.
 pub mod AnsweredLaws
 pub mod AnsweredOnceLaws
+pub mod BoundaryLaws
 pub mod CancelLaws
 pub mod Reached
 pub mod ReachedBookLaws

@@ -18,7 +18,7 @@ use Rattle.mask.specs.declared.Found.{Found}
 use Rattle.mask.specs.declared.Found.the-variants as place
 use Rattle.mask.specs.declared.Occupancy.{Occupancy}
 use Rattle.mask.proofs.OccupancyLaws.{none-free, none-sized, lowest-tells}
-use Rattle.sizes.specs.Sizes.{fewestSlots, mostSlots, ringSize, recordCount, recordsSize, packetCount, packetsSize, isoch}
+use Rattle.sizes.specs.Sizes.{ringSize, recordCount, recordsSize, packetCount, packetsSize, isoch}
 use Rattle.ids.specs.Free.{idAt, heldBy}
 use Rattle.ids.specs.Lookup.{findIn, Lowest, Finds}
 use Rattle.ids.specs.declared.Lookup.{Lookup}
@@ -67,7 +67,7 @@ use Rattle.dock.specs.Reset.{beginNo, beginReset, endNo, endReset}
 use Rattle.dock.specs.Run.{State, stateOf, madeOf, Made, making, Call, configures, starts, stores, submits, hands, reclaims, cancels, retires, begins, ends, stops, resumes, points, after, Reached}
 use Rattle.dock.proofs.Reached.{flightPart, flightSum, Books, Sound, reached-has}
 use Rattle.dock.proofs.ReachedBookLaws.{Alike, alike-same, alike-set, flies-alike, books-alike, books-freed, books-taken, taken-long, taken-flies, part-flies, part-none}
-use Rattle.dock.proofs.RefusalTestLaws.{on-course}
+use Rattle.dock.proofs.RefusalTestLaws.{by-limits, on-course}
 use Rattle.dock.proofs.StoreNextLaws.{because}
 use Rattle.dock.proofs.RetireLaws.{picked, sum-none, retiring, books-retired}
 use Rattle.dock.proofs.SubmitLaws.{submit-keeps}
@@ -377,10 +377,7 @@ slot-below base slots address l =
     picked (λ (x : Slot). slotNumber x < slots) (isSlot base slots address) (slot.At ((address - base) / 16)) slot.Outside (by-is-slot base slots address) (λ t. l)
 
 pub slots-some : (s : State) → Sound s → 3 ≤ s .endpoint .shape .slots
-unfolding limitsHold
-slots-some s h =
-    let slots = s .endpoint .shape .slots in
-    both (both (both (by-leb fewestSlots slots) (by-leb slots mostSlots)) (by-true _)) (by-true _) .so (h .limits) .0 .0 .0
+slots-some s h = by-limits (s .endpoint .shape) (s .endpoint .who) .so (h .limits) .slots-least
 
 hand-sound : (s : State) (event : Words) → Sound s → Sound (after s (hands event))
 unfolding handOver slotFor

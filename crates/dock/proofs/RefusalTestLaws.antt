@@ -1,6 +1,6 @@
 -- What the tests of the calls decide, as facts on numbers: the limits, the places, the rows of a submission's refusals and a store number past its
 -- request's stores. Assumes nothing.
-use Prim.Native.Nat.{ℕ, zero, suc, _+_, _-_, _*_, _%_, _^_, _<_, _≤_}
+use Prim.Native.Nat.{ℕ, zero, suc, _+_, _-_, _*_, _/_, _%_, _^_, _<_, _≤_}
 use mathlib.Core.Bool.{Bool, true, false, not, _&&_, _||_, false≢true}
 use mathlib.Core.List.{List, [], _∷_}
 use mathlib.Core.Logic.{_⊎_, inl, inr}
@@ -20,7 +20,7 @@ use Rattle.trb.specs.declared.Words.{Words}
 use Rattle.ring.specs.Ring.{slotOf}
 use Rattle.ring.specs.declared.Slot.{Slot}
 use Rattle.ring.specs.declared.Slot.the-variants as slot
-use Rattle.sizes.specs.Sizes.{fewestSlots, mostSlots, alignment, trbBytes, mostDci, mostSlotId, recordCount, recordsSize, packetCount, packetsSize, longest, longestControl}
+use Rattle.sizes.specs.Sizes.{fewestSlots, mostSlots, alignment, boundary, trbBytes, mostDci, mostSlotId, recordCount, recordsSize, packetCount, packetsSize, longest, longestControl}
 use Rattle.records.specs.Records.{inFlight, recordAt}
 use Rattle.dock.specs.declared.Endpoint.{Endpoint}
 use Rattle.dock.specs.declared.Identity.{Identity}
@@ -35,12 +35,14 @@ use Rattle.dock.specs.Trbs.{trbCount, deferred}
 
 -- ---- what a dock may hold
 
--- "Slots L: 3 to 4,096. Base: a multiple of 4,096, base + 16L at most 2^64. dci 1 to 31, slot id 1 to 255."
+-- "Slots L: 3 to 4,096. Base: a multiple of 4,096, base + 16L at most 2^64. dci 1 to 31, slot id 1 to 255." And document 02's "floor(base / 65,536)" is the
+-- same as "floor((base + 16L - 1) / 65,536)".
 pub record Limits (shape : Shape) (who : Identity) : Type 0 where
   pub slots-least : fewestSlots ≤ shape .slots
   pub slots-most : shape .slots ≤ mostSlots
   pub base-aligned : shape .base % alignment ≡ 0
   pub base-room : shape .base + trbBytes * shape .slots ≤ 2 ^ 64
+  pub base-whole : shape .base / boundary ≡ (shape .base + trbBytes * shape .slots - 1) / boundary
   pub dci-least : 1 ≤ who .dci
   pub dci-most : who .dci ≤ 31
   pub slot-least : 1 ≤ who .slot
@@ -51,23 +53,26 @@ unfolding limitsHold
 by-limits shape who =
     reworded
     (λ k. record {
-      slots-least = k .0 .0 .0;
-      slots-most = k .0 .0 .1;
-      base-aligned = k .0 .1 .0;
-      base-room = k .0 .1 .1;
+      slots-least = k .0 .0 .0 .0;
+      slots-most = k .0 .0 .0 .1;
+      base-aligned = k .0 .0 .1 .0;
+      base-room = k .0 .0 .1 .1;
+      base-whole = k .0 .1;
       dci-least = k .1 .0 .0 .0;
       dci-most = k .1 .0 .0 .1;
       slot-least = k .1 .0 .1;
       slot-most = k .1 .1;
     })
     (λ k. (
-      ((k .slots-least, k .slots-most), (k .base-aligned, k .base-room)),
+      (((k .slots-least, k .slots-most), (k .base-aligned, k .base-room)), k .base-whole),
       (((k .dci-least, k .dci-most), k .slot-least), k .slot-most),
     ))
     (both
     (both
+    (both
     (both (by-leb fewestSlots (shape .slots)) (by-leb (shape .slots) mostSlots))
     (both (by-eqb (shape .base % alignment) 0) (by-leb (shape .base + trbBytes * shape .slots) (2 ^ 64))))
+    (by-eqb (shape .base / boundary) ((shape .base + trbBytes * shape .slots - 1) / boundary)))
     (both (both (both (by-leb 1 (who .dci)) (by-leb (who .dci) mostDci)) (by-leb 1 (who .slot))) (by-leb (who .slot) mostSlotId)))
 
 -- The tables have their sizes: four words a slot, four words a place, 64 records of twelve words, 64 packets for each.

@@ -8,7 +8,8 @@ ghost use Rattle.dock.specs.RowOne.{placeStands};
 use dock::Identity;
 use dock::Shape;
 
-// "What a dock may hold": slots, base, slot id and dci.
+// "What a dock may hold": slots, base, slot id and dci; and document 02's "a transfer ring segment may not cross a 64 KiB address boundary." A ring that
+// crosses none ends at 2^64 at most, which is a boundary too.
 pub fn limits_hold(shape: Shape, who: Identity) -> bool
     ensures { λ r. ⌜ r ≡ limitsHold shape who ⌝ }
 {
@@ -21,7 +22,7 @@ pub fn limits_hold(shape: Shape, who: Identity) -> bool
     if shape.base % sizes::ALIGNMENT != 0 {
         return false;
     }
-    if u64::MAX - shape.base < sizes::TRB_BYTES * shape.slots as u64 - 1 {
+    if shape.base % sizes::BOUNDARY + sizes::TRB_BYTES * shape.slots as u64 > sizes::BOUNDARY {
         return false;
     }
     if who.dci < 1 {

@@ -1,2 +1,2 @@
--- The numbers as document 01 has them.
+-- The numbers as documents 01 and 02 have them.
 pub mod Numerals

@@ -1,10 +1,15 @@
--- The numbers, as document 01 writes them. Assumes nothing.
+-- The numbers, as documents 01 and 02 write them. Assumes nothing.
+use Prim.Native.Nat.{_*_}
 use mathlib.Core.Path.{_≡_, refl}
-use Rattle.sizes.specs.Sizes.{fewestSlots, mostSlots, alignment, trbBytes, trbWords, mostDci, mostSlotId, capacity, ringSize, recordCount, recordWords, recordsSize, packetCount, packetsSize, longest, longestControl, frames, control, bulk, interrupt, isoch}
+use Rattle.sizes.specs.Sizes.{fewestSlots, mostSlots, alignment, boundary, trbBytes, trbWords, mostDci, mostSlotId, capacity, ringSize, recordCount, recordWords, recordsSize, packetCount, packetsSize, longest, longestControl, frames, control, bulk, interrupt, isoch}
 
 -- "Slots L: 3 to 4,096." "Base: a multiple of 4,096, base + 16L at most 2^64." "dci 1 to 31, slot id 1 to 255." A TRB is four words.
 pub ring-numbers : (fewestSlots ≡ 3) × (mostSlots ≡ 4096) × (alignment ≡ 4096) × (trbBytes ≡ 16) × (trbWords ≡ 4) × (mostDci ≡ 31) × (mostSlotId ≡ 255)
 ring-numbers = (refl, refl, refl, refl, refl, refl, refl)
+
+-- Document 02: 64 KiB, "floor(base / 65,536)".
+pub boundary-number : (boundary ≡ 65536) × (boundary ≡ 64 * 1024) × (boundary ≡ trbBytes * mostSlots)
+boundary-number = (refl, refl, refl)
 
 -- At most L-2 TRBs: 4,094 in the largest ring.
 pub ring-rules : (capacity 4096 ≡ 4094) × (capacity 3 ≡ 1) × (ringSize 256 ≡ 1024)

@@ -1,2 +1,2 @@
--- The numbers of document 01.
+-- The numbers of documents 01 and 02.
 pub mod Sizes

@@ -1,5 +1,5 @@
--- The numbers of document 01, most of them of "What a dock may hold", and the kinds of a request, each once, by its name. src/lib.rt has the same for the
--- code.
+-- The numbers of documents 01 and 02, most of them of "What a dock may hold", and the kinds of a request, each once, by its name. src/lib.rt has the same
+-- for the code.
 use Prim.Native.Nat.{ℕ, _-_, _*_}
 
 -- "Slots L: 3 to 4,096."
@@ -12,6 +12,10 @@ mostSlots = 4096
 -- "Base: a multiple of 4,096."
 abbrev pub alignment : ℕ
 alignment = 4096
+
+-- Document 02: "a transfer ring segment may not cross a 64 KiB address boundary."
+abbrev pub boundary : ℕ
+boundary = 65536
 
 -- A TRB: its bytes, and its words in the ring; an event has as many in the finished table.
 abbrev pub trbBytes : ℕ

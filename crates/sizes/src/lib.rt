@@ -1,5 +1,5 @@
-// The numbers of document 01, most of them of "What a dock may hold", and the kinds of a request, each once: the constants here, for the code; the same by
-// the same name in specs/Sizes.antt, for the definitions (a slot id is a u8, so that its largest needs no constant). No function.
+// The numbers of documents 01 and 02, most of them of "What a dock may hold", and the kinds of a request, each once: the constants here, for the code; the
+// same by the same name in specs/Sizes.antt, for the definitions (a slot id is a u8, so that its largest needs no constant). No function.
 
 // "Slots L: 3 to 4,096."
 pub const FEWEST_SLOTS: usize = 3;
@@ -8,6 +8,9 @@ pub const MOST_SLOTS: usize = 4096;
 
 // "Base: a multiple of 4,096."
 pub const ALIGNMENT: u64 = 4096;
+
+// Document 02: "a transfer ring segment may not cross a 64 KiB address boundary."
+pub const BOUNDARY: u64 = 65536;
 
 // A TRB: its bytes, and its words in the ring; an event has as many in the finished table.
 pub const TRB_BYTES: u64 = 16;

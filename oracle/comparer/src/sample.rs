@@ -1,6 +1,7 @@
 //! A fixed sample of the Rust's answers: sessions in one input of `drive`, and what the Rust writes for it, to be replayed with no Rust at
 //! hand. Random sessions are looked at, the shortest first, and one is kept where it shows something that none before it has shown.
 use std::{
+    cmp::Ordering,
     collections::{BTreeMap, BTreeSet},
     fs,
     path::Path,
@@ -10,7 +11,7 @@ use crab_oracle::exceptions::Exceptions;
 
 use crate::{
     exhaustive::FAMILIES,
-    random,
+    random::{self, BOUNDARY},
     script::{Script, Session},
 };
 
@@ -114,6 +115,18 @@ fn shows(session: &Session) -> BTreeSet<String> {
         let mut stores: Vec<Vec<&str>> = Vec::new();
         if ["new", "nextid", "poke"].contains(&word) {
             continue;
+        }
+        if word == "ring" {
+            let slots: u64 = line[1].parse().expect("a number");
+            let base = u64::from_str_radix(line[2], 16).expect("a number");
+            if (3..=4096).contains(&slots) && base % 4096 == 0 {
+                let end = match (base % BOUNDARY + 16 * slots).cmp(&BOUNDARY) {
+                    Ordering::Less => "before",
+                    Ordering::Equal => "at",
+                    Ordering::Greater => "past",
+                };
+                shown.insert(format!("ring ends {end} a boundary"));
+            }
         }
         if word == "ring" && !answers.clone().next().is_some_and(|next| next.starts_with("no")) {
             let slots: u64 = line[1].parse().expect("a number");

@@ -3,7 +3,7 @@
 use alloc::{format, string::String, vec::Vec};
 
 use crate::{
-    dock::{Ask, Commands, Dock, No, Submitted, Taken},
+    dock::{Ask, Commands, Dock, No, Place, Submitted, Taken},
     exceptions::Exceptions,
 };
 
@@ -355,14 +355,19 @@ impl Drive {
     }
 
     fn ring(&mut self, mut fields: Fields<'_>) -> Result<(), Bad> {
-        let (l, base, mask) = (fields.decimal(u64::MAX)?, fields.hex(u64::MAX)?, fields.hex(u64::MAX)?);
-        let (slot, dci) = (fields.decimal(0xff)? as u8, fields.decimal(0xff)? as u8);
+        let place = Place {
+            l: fields.decimal(u64::MAX)?,
+            base: fields.hex(u64::MAX)?,
+            mask: fields.hex(u64::MAX)?,
+            slot: fields.decimal(0xff)? as u8,
+            dci: fields.decimal(0xff)? as u8,
+        };
         fields.end()?;
         if self.dock.is_some() {
             return Err(Bad);
         }
         let most = if self.session { 256 } else { 4096 };
-        match Dock::new(&mut self.commands, l, most, base, mask, slot, dci) {
+        match Dock::new(&mut self.commands, place, most, &mut self.exceptions) {
             Ok(dock) => self.dock = Some(dock),
             Err(no) => self.no(no),
         }

@@ -36,6 +36,7 @@ returns-8 c =
       slots-most = omega arith;
       base-aligned = omega arith;
       base-room = omega arith;
+      base-whole = omega arith;
       dci-least = omega arith;
       dci-most = omega arith;
       slot-least = omega arith;
@@ -49,7 +50,6 @@ limits-hold-spec =
     returns
     returns-2
     returns-3
-    (λ c. search needs)
     (λ c. search needs)
     (λ c. search needs)
     returns-4
