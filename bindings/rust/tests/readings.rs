@@ -1,7 +1,7 @@
 //! Document 01's "Readings from the bench", W1 to W10, through the typed interface.
 use thnaolups::{
-    alignment, Answer, Direction::In, Place, Refusal, Request, Ring, Stored, Tables, Words, LEAST_SLOTS, MOST_SLOTS, PACKETS_SIZE, RECORDS_SIZE,
-    SLOT_WORDS,
+    alignment, Answer, Direction::In, Place, Refusal, Request, Ring, Stored, Tables, Words, LEAST_SLOTS, MOST_SLOTS, PACKETS_SIZE,
+    RECORDS_SIZE, SLOT_WORDS,
 };
 
 /// Tables for the largest ring.
@@ -325,7 +325,16 @@ fn a_ring_outside_the_limits() {
         Ring::make(tables, place).err()
     };
     assert_eq!(refused(&mut desk, place), None);
-    assert_eq!(refused(&mut desk, Place { base: u64::MAX - 0xffff, ..place }), None);
+    assert_eq!(
+        refused(
+            &mut desk,
+            Place {
+                base: u64::MAX - 0xffff,
+                ..place
+            }
+        ),
+        None
+    );
     let outside = Some(Refusal::OutsideLimits);
     assert_eq!(refused(&mut desk, Place { slots: 2, ..place }), outside);
     assert_eq!(refused(&mut desk, Place { slots: 4097, ..place }), outside);

@@ -69,7 +69,7 @@ abbrev pub Crosses : Shape → Type 0
 Crosses shape = (k : ℕ) × (shape .base < boundary * k) × (boundary * k < shape .base + trbBytes * shape .slots)
 
 module _ (shape : Shape) (some : 0 < shape .slots) where
-  -- In the words of the code: from the boundary at or before the base on, the ring ends within 65,536 bytes.
+  -- In other words: from the boundary at or before the base on, the ring ends within 65,536 bytes.
   pub by-room : Decides (crossesNone shape) (shape .base % boundary + trbBytes * shape .slots ≤ boundary)
   by-room =
       reworded (λ same. omega arith) (λ room. omega arith)

@@ -8,21 +8,18 @@ ghost use Rattle.dock.specs.RowOne.{placeStands};
 use dock::Identity;
 use dock::Shape;
 
-// "What a dock may hold": slots, base, slot id and dci; and document 02's "a transfer ring segment may not cross a 64 KiB address boundary." A ring that
-// crosses none ends at 2^64 at most, which is a boundary too.
+// "What a dock may hold": slots, base, slot id and dci; and document 02's "a transfer ring segment may not cross a 64 KiB address boundary." From the base to
+// the next boundary are 4,096 slots at most, and 2^64 is a boundary: so one test says all that is asked of a ring's end.
 pub fn limits_hold(shape: Shape, who: Identity) -> bool
     ensures { λ r. ⌜ r ≡ limitsHold shape who ⌝ }
 {
     if shape.slots < sizes::FEWEST_SLOTS {
         return false;
     }
-    if sizes::MOST_SLOTS < shape.slots {
-        return false;
-    }
     if shape.base % sizes::ALIGNMENT != 0 {
         return false;
     }
-    if shape.base % sizes::BOUNDARY + sizes::TRB_BYTES * shape.slots as u64 > sizes::BOUNDARY {
+    if (sizes::BOUNDARY - shape.base % sizes::BOUNDARY) / sizes::TRB_BYTES < shape.slots as u64 {
         return false;
     }
     if who.dci < 1 {

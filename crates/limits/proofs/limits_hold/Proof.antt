@@ -25,11 +25,8 @@ returns-6 : tie.Need-returns-6
 returns-6 c = let a = c .before .before .before .before .before .before .before .before .before .before .before .before .args in fails (by-limits (a .shape) (a .who)) (λ ok. omega arith)
 
 returns-7 : tie.Need-returns-7
-returns-7 c = let a = c .before .before .before .before .before .before .before .before .before .before .before .before .before .before .args in fails (by-limits (a .shape) (a .who)) (λ ok. omega arith)
-
-returns-8 : tie.Need-returns-8
-returns-8 c =
-    let a = c .before .before .before .before .before .before .before .before .before .before .before .before .before .before .args in
+returns-7 c =
+    let a = c .before .before .before .before .before .before .before .before .before .before .before .before .args in
     holds (by-limits (a .shape) (a .who))
     (record {
       slots-least = omega arith;
@@ -49,11 +46,9 @@ limits-hold-spec =
     (tie.spec
     returns
     returns-2
+    (λ c. search needs)
     returns-3
-    (λ c. search needs)
-    (λ c. search needs)
     returns-4
     returns-5
     returns-6
-    returns-7
-    returns-8)
+    returns-7)
