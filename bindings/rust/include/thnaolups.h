@@ -48,8 +48,8 @@ extern "C" {
 #define THN_PACKETS 64
 
 /* Makes a ring. Zeroes the ring and empties every table. 13: slots, base, slot id or dci outside the limits, or a ring that crosses a
- * multiple of 65,536; then 1: a table or the endpoint's words of a wrong length. A base that is a multiple of the least power of two that
- * is at least 16 * slots, and 4096, crosses none. */
+ * multiple of 65,536; then 1: a table or the endpoint's words of a wrong length. A ring of at most 4096 slots crosses none where its base
+ * is a multiple of a power of two that is at least 4096 and at least 16 * slots. */
 uint32_t thn_make(
     uint64_t *state, size_t state_len, uint32_t *ring, size_t ring_len, uint32_t *finished,
     size_t finished_len, uint64_t *records, size_t records_len, uint64_t *packets,

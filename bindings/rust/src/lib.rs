@@ -53,7 +53,9 @@ pub const SLOT_BYTES: usize = 16;
 pub const LEAST_SLOTS: usize = 3;
 /// The most slots of a ring.
 pub const MOST_SLOTS: usize = 4096;
-/// The alignment to ask an allocator for: a ring of so many slots at any multiple of it, below 2^64, is within the limits of [`Place::base`].
+
+/// The alignment of its bus address to ask an allocator for: a ring of so many slots, at most [`MOST_SLOTS`], at any multiple of it below 2^64 is
+/// within the limits of [`Place::base`].
 ///
 /// ```
 /// assert_eq!(thnaolups::alignment(256), 4096);

@@ -355,8 +355,8 @@ fn making_knows_13_then_1() {
     }
 }
 
-/// An endpoint whose slots and base are forged: every call but making answers 1 where its ring crosses a multiple of 65,536, and none does where the
-/// ring ends there.
+/// An endpoint whose slots and base are forged: every call but making answers 1 where its ring crosses a multiple of 65,536, and none does
+/// where the ring ends there.
 #[test]
 fn a_forged_ring_at_a_boundary() {
     for (slots, base, fits) in [

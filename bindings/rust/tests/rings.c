@@ -1,5 +1,5 @@
-/* Rings as the program `drive` makes them, through the header: reads its lines `ring`, `pointer` and `new`, and writes what it writes. Any other line ends it
- * with 1.
+/* The rings of the repository's examples/boundary.drive, made through the header: for its lines `ring`, `pointer` and `new` it writes what
+ * `drive` writes there. Any other line ends it with 1.
  */
 #include "thnaolups.h"
 #include <inttypes.h>

@@ -15,7 +15,7 @@ ghost use Rattle.checks.specs.Step.{named};
 use dock::Endpoint;
 use records::Record;
 
-// "L, base, dci or slot id outside the above, place above L-2 .., next id 0": none of it.
+// "L, base, dci or slot id outside the above, place above L-2 .., next id 0": none of it. Document 02: "Answer 1 reads the same rule."
 pub fn fits(e: Endpoint) -> bool
     ensures { λ r. ⌜ r ≡ fits e ⌝ }
 {

@@ -1,6 +1,6 @@
 -- Document 02, "Rings must not cross 64 KiB": the test decides that no 64 KiB boundary lies within the ring (`by-boundary`), L 4,096 admits exactly the
--- multiples of 65,536 (`by-largest`), a ring that ends at a boundary crosses none (`ends-at`) nor does an aligned one (`aligned-none`); where a ring
--- crosses, making answers 13 (`crossing-made`) and every other call 1 (`crossing-called`). Assumes nothing.
+-- multiples of 65,536 (`by-largest`); a ring of at most 4,096 slots that ends at a boundary crosses none (`ends-at`), nor does an aligned one
+-- (`aligned-none`); where a ring crosses, making answers 13 (`crossing-made`) and every other call 1 (`crossing-called`). Assumes nothing.
 use Prim.Native.Nat.{ℕ, zero, suc, _+_, _-_, _*_, _/_, _%_, _^_, _<_, _≤_}
 use mathlib.Core.Bool.{Bool, true, false, not, _&&_}
 use mathlib.Core.Logic.{⊎-elim}
@@ -48,13 +48,14 @@ pub largest-rings : (madeAt 4096 65536 ≡ 0) × (madeAt 4096 61440 ≡ 13) × (
 unfolding makeNo makeTests sized limitsHold
 largest-rings = (refl, refl, refl, refl, refl, refl)
 
--- The page before a boundary: 256 slots end there exactly, a slot more crosses. Of the sixteen pages but the first, 3,840 slots end at the next boundary.
+-- In the page before a boundary 256 slots end there exactly, and a slot more crosses. From the second of the sixteen pages on 3,840 slots end at the next
+-- boundary. The same at 2^64.
 pub rings-to-the-end : (madeAt 256 61440 ≡ 0) × (madeAt 257 61440 ≡ 13) × (madeAt 3840 4096 ≡ 0) × (madeAt 3841 4096 ≡ 13)
     × (madeAt 256 (2 ^ 64 - 4096) ≡ 0) × (madeAt 257 (2 ^ 64 - 4096) ≡ 13)
 unfolding makeNo makeTests sized limitsHold
 rings-to-the-end = (refl, refl, refl, refl, refl, refl)
 
--- The same rings, forged into an endpoint, at a call that knows 1 and 12 only.
+-- Four of these rings, forged into an endpoint, at a call that knows 1 and 12 only.
 abbrev calledAt : ℕ → ℕ → ℕ
 calledAt slots base = plainNo (fresh (record { slots = slots; base = base }) (record { slot = 1; dci = 1; mask = 0 }))
 
@@ -64,7 +65,7 @@ rings-forged = (refl, refl, refl, refl)
 
 -- ---- what the test decides
 
--- "a transfer ring segment may not cross a 64 KiB address boundary": one lies behind its first byte, and bytes of it behind the boundary.
+-- "a transfer ring segment may not cross a 64 KiB address boundary": one lies behind the ring's first byte and before its end.
 abbrev pub Crosses : Shape → Type 0
 Crosses shape = (k : ℕ) × (shape .base < boundary * k) × (boundary * k < shape .base + trbBytes * shape .slots)
 
@@ -86,11 +87,12 @@ module _ (shape : Shape) (some : 0 < shape .slots) where
       (lt-or-le boundary (shape .base % boundary + trbBytes * shape .slots)))
       by-room
 
-  -- "a ring that ends exactly at a boundary", of at most 4,096 slots, crosses none.
+  -- A ring of at most 4,096 slots that ends exactly at a boundary crosses none.
   pub ends-at : shape .slots ≤ mostSlots → (k : ℕ) → shape .base + trbBytes * shape .slots ≡ boundary * k → crossesNone shape ≡ true
   ends-at most k end = if-so by-room (omega (arith, most, end))
 
--- Nor does one within a block of 4,096, 8,192, 16,384, 32,768 or 65,536 bytes that stands at a multiple of its size: the alignment to ask an allocator for.
+-- Nor does one whose base is a multiple of 4,096, 8,192, 16,384, 32,768 or 65,536, and which has no more bytes than that: the alignment to ask an allocator
+-- for.
 pub aligned-none : (shape : Shape) → 0 < shape .slots → (k : ℕ) → k ≤ 4 → shape .base % (alignment * 2 ^ k) ≡ 0 → trbBytes * shape .slots ≤ alignment * 2 ^ k
     → crossesNone shape ≡ true
 aligned-none shape some zero low aligned small = if-so (by-room shape some) (omega (arith, aligned, small))
@@ -114,15 +116,15 @@ by-largest base who =
     (by-room (record { slots = mostSlots; base = base }) (omega arith)))
     (by-true (idsFit who)))
 
--- A ring of at most 256 slots, as a session's is, meets the limits exactly where it met those of document 01.
 dropped : (x c i : Bool) → (x ≡ true → c ≡ true) → (x && c && i) ≡ (x && i)
 dropped true c i h = rw (h refl)
 dropped false c i h = refl
 
-pub small-as-before : (shape : Shape) (who : Identity) → trbBytes * shape .slots ≤ alignment
+-- A ring of at most 256 slots, as a session's is, meets the limits exactly where it meets those of document 01 alone.
+pub small-crosses-none : (shape : Shape) (who : Identity) → trbBytes * shape .slots ≤ alignment
     → limitsHold shape who ≡ (slotsFit shape && baseFits shape && idsFit who)
 unfolding limitsHold
-small-as-before shape who small =
+small-crosses-none shape who small =
     dropped (slotsFit shape && baseFits shape) (crossesNone shape) (idsFit who)
     (λ fit.
     let k = both
@@ -135,15 +137,15 @@ small-as-before shape who small =
 pub crossing-limits : (shape : Shape) (who : Identity) → Crosses shape → limitsHold shape who ≡ false
 crossing-limits shape who k = if-not (by-limits shape who) (λ l. omega (arith, l .base-whole, k .1, k .2))
 
--- Making,
+-- Making answers 13.
 pub crossing-made : (ring finished records packets : ℕ) (shape : Shape) (who : Identity) → Crosses shape → makeNo ring finished records packets shape who ≡ 13
 crossing-made ring finished records packets shape who k = make-rows ring finished records packets shape who ∙ rw (crossing-limits shape who k)
 
--- and every other call: row 1 of each has the limits in it.
 either-way : (b : Bool) → _≡_ {A = ℕ} (pick b 1 1) 1
 either-way true = refl
 either-way false = refl
 
+-- Row 1 of every other call has the limits in it,
 unfit-first : (s : State) (c : Call) → fits (s .endpoint) ≡ false → first (tests s c) ≡ 1
 unfolding plainTests startTests storeTests submitTests handOverTests reclaimTests cancelTests recordTests beginTests endTests fitsWith
 unfit-first s (configures packet burst interval) off = rw off
@@ -166,6 +168,7 @@ outside-unfit : (e : Endpoint) → limitsHold (e .shape) (e .who) ≡ false → 
 unfolding fits
 outside-unfit e off = rw off
 
+-- and so each answers 1.
 pub crossing-called : (s : State) (c : Call) → Crosses (s .endpoint .shape) → answered s c .0 ≡ 1
 crossing-called s c k =
     ap (λ (x : Numbered). x .0) (answered-is s c)

@@ -14,7 +14,7 @@ slotsFit shape = leb fewestSlots (shape .slots) && leb (shape .slots) mostSlots
 abbrev pub baseFits : Shape → Bool
 baseFits shape = eqb (shape .base % alignment) 0 && leb (shape .base + trbBytes * shape .slots) (2 ^ 64)
 
--- Document 02: "From now on making a ring also answers 13 when floor(base / 65,536) differs from floor((base + 16L - 1) / 65,536)." It does not.
+-- Document 02: "From now on making a ring also answers 13 when floor(base / 65,536) differs from floor((base + 16L - 1) / 65,536)." Here: the two are the same.
 abbrev pub crossesNone : Shape → Bool
 crossesNone shape = eqb (shape .base / boundary) ((shape .base + trbBytes * shape .slots - 1) / boundary)
 

@@ -21,7 +21,7 @@ placeStands slots place busy stored = ltb (place + 1) slots || (eqb (place + 1) 
 unfoldable pub placeFits : Endpoint → Bool
 placeFits e = placeStands (e .shape .slots) (e .at .place) (e .work .busy) (e .work .stored)
 
--- "L, base, dci or slot id outside the above, place above L-2 .., next id 0": none of it.
+-- "L, base, dci or slot id outside the above, place above L-2 .., next id 0": none of it. Document 02: "Answer 1 reads the same rule."
 unfoldable pub fits : Endpoint → Bool
 fits e =
     limitsHold (e .shape) (e .who)

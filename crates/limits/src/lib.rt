@@ -9,7 +9,8 @@ use dock::Identity;
 use dock::Shape;
 
 // "What a dock may hold": slots, base, slot id and dci; and document 02's "a transfer ring segment may not cross a 64 KiB address boundary." From the base to
-// the next boundary are 4,096 slots at most, and 2^64 is a boundary: so one test says all that is asked of a ring's end.
+// the next boundary are 4,096 slots at most, and 2^64 is a boundary: so this one test says L at most 4,096 and base + 16L at most 2^64, too. It divides, since
+// 16 times a forged L may be no u64.
 pub fn limits_hold(shape: Shape, who: Identity) -> bool
     ensures { λ r. ⌜ r ≡ limitsHold shape who ⌝ }
 {

@@ -119,7 +119,8 @@ fn shows(session: &Session) -> BTreeSet<String> {
         if word == "ring" {
             let slots: u64 = line[1].parse().expect("a number");
             let base = u64::from_str_radix(line[2], 16).expect("a number");
-            if (3..=4096).contains(&slots) && base % 4096 == 0 {
+            // within document 01's limits
+            if (3..=4096).contains(&slots) && base % 4096 == 0 && base.checked_add(16 * slots - 1).is_some() {
                 let end = match (base % BOUNDARY + 16 * slots).cmp(&BOUNDARY) {
                     Ordering::Less => "before",
                     Ordering::Equal => "at",
@@ -127,29 +128,28 @@ fn shows(session: &Session) -> BTreeSet<String> {
                 };
                 shown.insert(format!("ring ends {end} a boundary"));
             }
-        }
-        if word == "ring" && !answers.clone().next().is_some_and(|next| next.starts_with("no")) {
-            let slots: u64 = line[1].parse().expect("a number");
-            let size = match slots {
-                0..=8 => slots,
-                9..=62 => 9,
-                63..=69 => slots,
-                255..=256 => slots,
-                4095..=4096 => slots,
-                _ => 257,
-            };
-            shown.insert(format!("slots {size}"));
-            shown.insert(format!(
-                "base {}",
-                if line[2] == "0" {
-                    "0"
-                } else if line[2].len() == 16 {
-                    "high"
-                } else {
-                    "low"
-                }
-            ));
-            continue;
+            if !answers.clone().next().is_some_and(|next| next.starts_with("no")) {
+                let size = match slots {
+                    0..=8 => slots,
+                    9..=62 => 9,
+                    63..=69 => slots,
+                    255..=256 => slots,
+                    4095..=4096 => slots,
+                    _ => 257,
+                };
+                shown.insert(format!("slots {size}"));
+                shown.insert(format!(
+                    "base {}",
+                    if line[2] == "0" {
+                        "0"
+                    } else if line[2].len() == 16 {
+                        "high"
+                    } else {
+                        "low"
+                    }
+                ));
+                continue;
+            }
         }
         loop {
             let answer = fields(answers.next().expect("an answer"));
