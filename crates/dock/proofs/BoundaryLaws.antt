@@ -3,6 +3,7 @@
 -- (`aligned-none`); where a ring crosses, making answers 13 (`crossing-made`) and every other call 1 (`crossing-called`). Assumes nothing.
 use Prim.Native.Nat.{ℕ, zero, suc, _+_, _-_, _*_, _/_, _%_, _^_, _<_, _≤_}
 use mathlib.Core.Bool.{Bool, true, false, not, _&&_}
+use mathlib.Core.List.{List, []}
 use mathlib.Core.Logic.{⊎-elim}
 use mathlib.Core.Path.{_≡_, refl, ap, _∙_}
 use native.Mathlib.Omega.{arith}
@@ -18,7 +19,7 @@ use Rattle.dock.specs.declared.Shape.{Shape}
 use Rattle.dock.specs.Limits.{slotsFit, baseFits, crossesNone, idsFit, limitsHold}
 use Rattle.dock.specs.RowOne.{fits, placeFits, fitsWith}
 use Rattle.dock.specs.State.{fresh}
-use Rattle.dock.specs.Make.{sized, makeTests, makeNo}
+use Rattle.dock.specs.Make.{sized, makeTests, makeNo, make}
 use Rattle.dock.specs.Configure.{plainTests, plainNo}
 use Rattle.dock.specs.Start.{startTests}
 use Rattle.dock.specs.NextStore.{storeTests}
@@ -28,12 +29,11 @@ use Rattle.dock.specs.Reclaim.{reclaimTests}
 use Rattle.dock.specs.Cancel.{cancelTests}
 use Rattle.dock.specs.Retire.{recordTests}
 use Rattle.dock.specs.Reset.{beginTests, endTests}
-use Rattle.dock.specs.Numbers.{Numbered}
+use Rattle.dock.specs.Numbers.{Numbered, outcomeNumber}
 use Rattle.dock.specs.Run.{State, Call, configures, starts, stores, submits, hands, reclaims, cancels, retires, begins, ends, stops, resumes, points, answered}
 use Rattle.dock.specs.Tests.{tests}
-use Rattle.dock.proofs.AnsweredLaws.{answered-is}
+use Rattle.dock.proofs.AnsweredLaws.{answered-is, making-is}
 use Rattle.dock.proofs.RefusalTestLaws.{by-limits}
-use Rattle.dock.proofs.RefusalRowLaws.{make-rows}
 
 -- ---- rings at both sides of a boundary
 
@@ -138,8 +138,10 @@ pub crossing-limits : (shape : Shape) (who : Identity) → Crosses shape → lim
 crossing-limits shape who k = if-not (by-limits shape who) (λ l. omega (arith, l .base-whole, k .1, k .2))
 
 -- Making answers 13.
-pub crossing-made : (ring finished records packets : ℕ) (shape : Shape) (who : Identity) → Crosses shape → makeNo ring finished records packets shape who ≡ 13
-crossing-made ring finished records packets shape who k = make-rows ring finished records packets shape who ∙ rw (crossing-limits shape who k)
+pub crossing-made : (ring finished records packets : List ℕ) (shape : Shape) (who : Identity) → Crosses shape
+    → outcomeNumber (make ring finished records packets shape who .0 .answer) ≡ (13, [])
+unfolding makeTests
+crossing-made ring finished records packets shape who k = making-is ring finished records packets shape who ∙ rw (crossing-limits shape who k)
 
 either-way : (b : Bool) → _≡_ {A = ℕ} (pick b 1 1) 1
 either-way true = refl
