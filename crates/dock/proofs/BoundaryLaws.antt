@@ -127,9 +127,7 @@ unfolding limitsHold
 small-crosses-none shape who small =
     dropped (slotsFit shape && baseFits shape) (crossesNone shape) (idsFit who)
     (λ fit.
-    let k = both
-        (both (by-leb fewestSlots (shape .slots)) (by-true _))
-        (both (by-eqb (shape .base % alignment) 0) (by-true _)) .so fit in
+    let k = both (both (by-leb fewestSlots (shape .slots)) (by-true _)) (both (by-eqb (shape .base % alignment) 0) (by-true _)) .so fit in
     aligned-none shape (omega (arith, k .0 .0)) 0 (omega arith) (k .1 .0) small)
 
 -- ---- who refuses a ring that crosses
