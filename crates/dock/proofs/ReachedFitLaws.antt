@@ -14,7 +14,7 @@ use lib.Seq.{getD-set-other}
 use Rattle.base.specs.First.{pick, first}
 use Rattle.base.proofs.Chosen.{quiet}
 use Rattle.base.proofs.Compare.{same-or-not}
-use Rattle.base.proofs.Decide.{Decides, both, if-so, by-leb, by-ltb}
+use Rattle.base.proofs.Decide.{Decides, both, if-so, by-leb, by-ltb, by-true, by-false}
 use Rattle.mask.specs.Occupancy.{held}
 use Rattle.mask.specs.Occupancy as masks
 use Rattle.mask.proofs.OccupancyLaws.{none-free, taken-is}
@@ -64,7 +64,7 @@ use Rattle.dock.proofs.RefusalTestLaws.{implied}
 use Rattle.dock.proofs.RetireLaws.{picked, none-flies, retired-none}
 use Rattle.dock.proofs.SubmitLaws.{submit-keeps}
 use Rattle.dock.proofs.ReclaimLaws.{Left, Measured, own-measured}
-use Rattle.dock.proofs.ReachedSoundLaws.{either-true, both-false, left-true, right-true, by-true, by-not, by-fits, by-fits-with, place-slot, stepped-follows, settled-follows, store-busy, taken, short, started-sound, fresh-sound, not-done, slots-some, marked-alike, Untouched, Looked, reclaim-result, reclaim-idle, after-sound, reached-sound}
+use Rattle.dock.proofs.ReachedSoundLaws.{either-true, both-false, left-true, right-true, fits-parts, fits-with-parts, place-slot, stepped-follows, settled-follows, store-busy, taken, short, started-sound, fresh-sound, not-done, slots-some, marked-alike, Untouched, Looked, reclaim-result, reclaim-idle, after-sound, reached-sound}
 
 -- ---- the place as a fact on numbers
 
@@ -103,7 +103,7 @@ last-slot e p q =
 
 pub fits-true : (e : Endpoint) → limitsHold (e .shape) (e .who) ≡ true → placeFits e ≡ true
     → 0 < e .account .next → fits e ≡ true
-fits-true e limits places above = if-so (by-fits e) ((limits, places), ne-eqb (e .account .next) 0 (λ (z : e .account .next ≡ 0). omega arith))
+fits-true e limits places above = if-so (fits-parts e) ((limits, places), ne-eqb (e .account .next) 0 (λ (z : e .account .next ≡ 0). omega arith))
 
 -- ---- a submission that does not stray
 
@@ -126,7 +126,7 @@ by-straight : (e : Endpoint) (records : List ℕ)
 by-straight e records =
     both (both (both (both (by-ltb (e .work .number) recordCount) (by-true (flies records (e .account .occupancy) (e .work .number))))
     (by-leb (e .work .stored) (trbCount (recordAt records (e .work .number)))))
-    (by-not (isNone (nextOf e (recordAt records (e .work .number))))))
+    (by-false (isNone (nextOf e (recordAt records (e .work .number))))))
     (implied (by-true (deferred (recordAt records (e .work .number)))) (by-ltb (e .work .place + 1) (e .shape .slots)))
 
 not-without : (a b : Bool) → (a ≡ true → b ≡ true) → (a && not b) ≡ false
@@ -554,7 +554,7 @@ pub reached-fits : {s : State} → Reached s → fits (s .endpoint) ≡ true
 reached-fits {s} r = fits-true (s .endpoint) (reached-sound r .limits) (reached-placed r .placing) (reached-sound r .books .nextAbove)
 
 pub reached-fits-with : {s : State} → Reached s → fitsWith (s .endpoint) (s .records) ≡ true
-reached-fits-with {s} r = if-so (by-fits-with (s .endpoint) (s .records)) ((reached-fits r, reached-sound r .recordsLong), reached-placed r .straight)
+reached-fits-with {s} r = if-so (fits-with-parts (s .endpoint) (s .records)) ((reached-fits r, reached-sound r .recordsLong), reached-placed r .straight)
 
 -- never more TRBs are outstanding than L-2,
 pub reached-capacity : {s : State} → Reached s → s .endpoint .account .outstanding ≤ s .endpoint .shape .slots - 2

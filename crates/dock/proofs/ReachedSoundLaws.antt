@@ -1,17 +1,17 @@
 -- Every call keeps the invariant, so every state that is reached from making has it (`reached-sound`). Assumes nothing.
 use Prim.Native.Nat.{ℕ, _+_, _-_, _*_, _/_, _%_, _<_, _≤_}
-use mathlib.Core.Bool.{Bool, true, false, not, _&&_, _||_, and-eq-true-iff}
+use mathlib.Core.Bool.{Bool, true, false, _&&_, _||_, and-eq-true-iff}
 use mathlib.Core.List.{List, [], _∷_}
 use mathlib.Core.Logic.{_⊎_, inl, inr, ⊎-elim}
 use mathlib.Core.Path.{_≡_, refl, sym, ap, _∙_, subst}
 use native.Mathlib.Omega.{arith}
-use borrow.Author.Tests.{eqb-true, eq-eqb, ltb-true, ltb-false, not-true, not-false}
+use borrow.Author.Tests.{eqb-true, eq-eqb, ltb-true, ltb-false, not-false}
 use lib.Dec.{eqb, ltb, leb}
 use lib.ListN.{length, getD, length-replicate}
 use lib.Seq.{length-paste}
 use Rattle.base.specs.First.{first}
 use Rattle.base.proofs.Chosen.{quiet}
-use Rattle.base.proofs.Decide.{Decides, both, by-eqb, by-ltb, by-leb}
+use Rattle.base.proofs.Decide.{Decides, both, by-eqb, by-ltb, by-leb, by-true, by-false}
 use Rattle.mask.specs.Occupancy.{held, LowestFree, Tells}
 use Rattle.mask.specs.Occupancy as masks
 use Rattle.mask.specs.declared.Found.{Found}
@@ -52,7 +52,7 @@ use Rattle.dock.specs.declared.Taken.{Taken}
 use Rattle.dock.specs.Limits.{limitsHold}
 use Rattle.dock.specs.State.{fresh, idle, withStore}
 use Rattle.dock.specs.RowOne.{placeFits, fits, fitsWith, strays, Next, theLink, theTrb, theFirst, none, nextOf, isNone}
-use Rattle.dock.specs.Make.{sized, makeTests, makeNo, make, zeros}
+use Rattle.dock.specs.Make.{makeTests, makeNo, make, zeros}
 use Rattle.dock.specs.Configure.{plainNo, configure}
 use Rattle.dock.specs.Requests.{recordFor}
 use Rattle.dock.specs.Start.{tooLong, isFull, startTests, startNo, recordTaken, numberFrom, idTaken, charged, atLeastOne, writePackets, startedEndpoint, startedRecords, start, someOver, sumOf}
@@ -67,7 +67,7 @@ use Rattle.dock.specs.Reset.{beginNo, beginReset, endNo, endReset}
 use Rattle.dock.specs.Run.{State, stateOf, madeOf, Made, making, Call, configures, starts, stores, submits, hands, reclaims, cancels, retires, begins, ends, stops, resumes, points, after, Reached}
 use Rattle.dock.proofs.Reached.{flightPart, flightSum, Books, Sound, reached-has}
 use Rattle.dock.proofs.ReachedBookLaws.{Alike, alike-same, alike-set, flies-alike, books-alike, books-freed, books-taken, taken-long, taken-flies, part-flies, part-none}
-use Rattle.dock.proofs.RefusalTestLaws.{by-limits, on-course}
+use Rattle.dock.proofs.RefusalTestLaws.{by-limits, by-sized, on-course}
 use Rattle.dock.proofs.StoreNextLaws.{because}
 use Rattle.dock.proofs.RetireLaws.{picked, sum-none, retiring, books-retired}
 use Rattle.dock.proofs.SubmitLaws.{submit-keeps}
@@ -138,22 +138,18 @@ module _ (ring finished records packets : List ℕ) (shape : Shape) (who : Ident
     outstandingSum = sym (sum-none recordCount (flightPart l masks.none) (λ r k. part-none l masks.none r (λ h. none-held r (h .0))));
   }
 
-  by-sized : (r f e p : ℕ) → Decides (sized (shape .slots) r f e p) ((((r ≡ ringSize (shape .slots)) × (f ≡ ringSize (shape .slots))) × (e ≡ recordsSize)) × (p ≡ packetsSize))
-  unfolding sized
-  by-sized r f e p = both (both (both (by-eqb r (ringSize (shape .slots))) (by-eqb f (ringSize (shape .slots)))) (by-eqb e recordsSize)) (by-eqb p packetsSize)
-
   pub fresh-sound : makeNo (length ring) (length finished) (length records) (length packets) shape who ≡ 0
       → Sound (stateOf (fresh shape who) (zeros ring) (zeros finished) (zeros records) (zeros packets))
   unfolding makeNo makeTests
   fresh-sound t =
       let ts = makeTests (length ring) (length finished) (length records) (length packets) shape who in
-      let sizes = by-sized (length ring) (length finished) (length records) (length packets) .so (not-false _ (quiet ts 1 refl t (omega arith))) in
+      let sizes = by-sized (shape .slots) (length ring) (length finished) (length records) (length packets) .so (not-false _ (quiet ts 1 refl t (omega arith))) in
       record {
         limits = not-false _ (quiet ts 0 refl t (omega arith));
-        ringLong = zeros-long ring (ringSize (shape .slots)) (sizes .0 .0 .0);
-        finishedLong = zeros-long finished (ringSize (shape .slots)) (sizes .0 .0 .1);
-        recordsLong = zeros-long records recordsSize (sizes .0 .1);
-        packetsLong = zeros-long packets packetsSize (sizes .1);
+        ringLong = zeros-long ring (ringSize (shape .slots)) (sizes .ring-size);
+        finishedLong = zeros-long finished (ringSize (shape .slots)) (sizes .finished-size);
+        recordsLong = zeros-long records recordsSize (sizes .records-size);
+        packetsLong = zeros-long packets packetsSize (sizes .packets-size);
         books = books-fresh (zeros records);
         underway = λ b. absurd (never-both b refl);
       }
@@ -266,22 +262,16 @@ start-sound s request lengths h =
 
 -- ---- a store
 
--- A Bool as the fact that it holds, and its negation.
-pub by-true : (b : Bool) → Decides b (b ≡ true)
-by-true b = record { so = λ e. e; not-so = λ f t. never-both t f }
-
-pub by-not : (b : Bool) → Decides (not b) (b ≡ false)
-by-not b = record { so = not-true b; not-so = λ f t. never-both (not-false b f) t }
-
-pub by-fits : (e : Endpoint)
+-- Row 1 by its own tests; in plain facts it is `by-fits` and `by-fits-with` of RefusalTestLaws.
+pub fits-parts : (e : Endpoint)
     → Decides (fits e) (((limitsHold (e .shape) (e .who) ≡ true) × (placeFits e ≡ true)) × (eqb (e .account .next) 0 ≡ false))
 unfolding fits
-by-fits e = both (both (by-true _) (by-true (placeFits e))) (by-not (eqb (e .account .next) 0))
+fits-parts e = both (both (by-true _) (by-true (placeFits e))) (by-false (eqb (e .account .next) 0))
 
-pub by-fits-with : (e : Endpoint) (records : List ℕ)
+pub fits-with-parts : (e : Endpoint) (records : List ℕ)
     → Decides (fitsWith e records) (((fits e ≡ true) × (length records ≡ recordsSize)) × (strays e records ≡ false))
 unfolding fitsWith
-by-fits-with e records = both (both (by-true (fits e)) (by-eqb (length records) recordsSize)) (by-not (strays e records))
+fits-with-parts e records = both (both (by-true (fits e)) (by-eqb (length records) recordsSize)) (by-false (strays e records))
 
 -- A place that fits is one of the slots.
 module _ (e : Endpoint) (p : placeFits e ≡ true) where
@@ -341,8 +331,8 @@ module _ (s : State) (h : Sound s) where
   store-fits t =
       let e = s .endpoint in
       let row = not-false _ (quiet (storeTests e (length (s .ring)) (length (s .finished)) (s .records) (length (s .packets))) 0 refl t (omega arith)) in
-      let all = both (both (both (by-fits-with e (s .records)) (by-eqb (length (s .ring)) (ringSize (e .shape .slots)))) (by-eqb (length (s .finished)) (ringSize (e .shape .slots)))) (by-eqb (length (s .packets)) packetsSize) .so row in
-      (by-fits e .so (all .0 .0 .0 .0 .0) .0 .1, all .0 .0 .0 .1)
+      let all = both (both (both (fits-with-parts e (s .records)) (by-eqb (length (s .ring)) (ringSize (e .shape .slots)))) (by-eqb (length (s .finished)) (ringSize (e .shape .slots)))) (by-eqb (length (s .packets)) packetsSize) .so row in
+      (fits-parts e .so (all .0 .0 .0 .0 .0) .0 .1, all .0 .0 .0 .1)
 
   store-sound : Sound (after s stores)
   unfolding storing.store
@@ -473,7 +463,7 @@ reclaim-long : (e : Endpoint) (finished : ℕ) (records : List ℕ) (packets id 
 unfolding reclaimNo reclaimTests
 reclaim-long e finished records packets id t =
     let row = not-false _ (quiet (reclaimTests e finished records packets id) 0 refl t (omega arith)) in
-    both (both (by-fits-with e records) (by-eqb finished (ringSize (e .shape .slots)))) (by-eqb packets packetsSize) .so row .0 .0 .0 .1
+    both (both (fits-with-parts e records) (by-eqb finished (ringSize (e .shape .slots)))) (by-eqb packets packetsSize) .so row .0 .0 .0 .1
 
 module _ (s : State) (id : ℕ) (allows : reclaimNo (s .endpoint) (length (s .finished)) (s .records) (length (s .packets)) id ≡ 0) where
   abbrev Result : ReclaimedOne × List ℕ × List ℕ → Type 0

@@ -37,7 +37,7 @@ use Rattle.dock.specs.Worth.{accepted, movedBytes}
 use Rattle.dock.specs.Residual.{Told, Tells, Writes}
 use Rattle.dock.specs.Reclaim.{mismatched, complete, codeOf, remainingOf, reclaimBulk, onward, stageBy, recordedLength, statusBy, recordedBy, dataPlace, statusPlace, dataSeen, afterStage, reclaimControl, reclaimTests, reclaimNo, reclaimFlying, reclaimFound, reclaim, nothing}
 use Rattle.dock.proofs.RefusalLaws.{reclaim-acts}
-use Rattle.dock.proofs.ReachedSoundLaws.{by-fits-with}
+use Rattle.dock.proofs.ReachedSoundLaws.{fits-with-parts}
 use Rattle.dock.proofs.RetireLaws.{picked}
 use Rattle.dock.proofs.ReclaimAnswerLaws.{done-last}
 use Rattle.dock.proofs.ReclaimResidualLaws.{moved-residual, data-moved}
@@ -104,7 +104,7 @@ module _ (e : Endpoint) (finished records packets : List ℕ) (id r : ℕ) (h : 
   records-long =
       let tables = fitsWith e records && eqb (length finished) (ringSize (e .shape .slots)) && eqb (length packets) packetsSize in
       let all = not-false tables (quiet (reclaimTests e (length finished) records (length packets) id) 0 refl (h .admitted) (omega arith)) in
-      both (both (by-fits-with e records) (by-eqb (length finished) (ringSize (e .shape .slots)))) (by-eqb (length packets) packetsSize) .so all .0 .0 .0 .1
+      both (both (fits-with-parts e records) (by-eqb (length finished) (ringSize (e .shape .slots)))) (by-eqb (length packets) packetsSize) .so all .0 .0 .0 .1
 
   -- A completion whose code is accepted is done.
   done-here : (code size : ℕ) → accepted code ≡ true → mismatched v ≡ false

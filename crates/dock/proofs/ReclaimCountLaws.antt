@@ -40,7 +40,7 @@ use Rattle.dock.specs.Reclaim.{codeOf, remainingOf, placeOf, counted, Sw
 use Rattle.dock.proofs.RefusalLaws.{reclaim-acts}
 use Rattle.dock.proofs.ReclaimResidualLaws.{worth-residual}
 use Rattle.dock.proofs.RetireLaws.{picked}
-use Rattle.dock.proofs.ReachedSoundLaws.{by-fits-with, few-packets}
+use Rattle.dock.proofs.ReachedSoundLaws.{fits-with-parts, few-packets}
 use Rattle.dock.proofs.ReclaimAnswerLaws.{never-done, refused-not-done}
 use Rattle.dock.proofs.ReclaimSettleLaws.{credited, unmarkedBy, settled, Refuses, isFound, Ending, ran, broke, closed, Settles, sweep-settles}
 
@@ -112,7 +112,7 @@ module _ (e : Endpoint) (finished records packets : List ℕ) (id r : ℕ) (h : 
   unfolding reclaimNo reclaimTests
   packets-long =
       let row = not-false _ (quiet (reclaimTests e (length finished) records (length packets) id) 0 refl (h .admitted) (omega arith)) in
-      both (both (by-fits-with e records) (by-eqb (length finished) (ringSize (e .shape .slots)))) (by-eqb (length packets) packetsSize) .so row .1
+      both (both (fits-with-parts e records) (by-eqb (length finished) (ringSize (e .shape .slots)))) (by-eqb (length packets) packetsSize) .so row .1
 
   not-bad : badRecord e records (At r) ≡ false
   unfolding reclaimNo reclaimTests

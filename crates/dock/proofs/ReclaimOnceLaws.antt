@@ -40,7 +40,7 @@ use Rattle.dock.proofs.ReachedBookLaws.{Alike, freed-here, freed-other,
 use Rattle.dock.proofs.RetireLaws.{picked, retiredAccount, retired-none, retired-stopped, retiring}
 use Rattle.dock.proofs.ReclaimLaws.{Left}
 use Rattle.dock.proofs.ReachedFitLaws.{reached-fits}
-use Rattle.dock.proofs.ReachedSoundLaws.{by-fits-with, Untouched, Looked, reclaim-result, reclaim-idle, reached-sound}
+use Rattle.dock.proofs.ReachedSoundLaws.{fits-with-parts, Untouched, Looked, reclaim-result, reclaim-idle, reached-sound}
 
 -- Outstanding is the sum of the counts of the requests in flight.
 pub outstanding-is-sum : {s : State} → Reached s → s .endpoint .account .outstanding ≡ flightSum (s .records) (s .endpoint .account .occupancy)
@@ -75,7 +75,7 @@ unfolding strays
 no-stray e records idle = rw idle
 
 ready-with : (e : Endpoint) (records : List ℕ) → Ready e → length records ≡ recordsSize → fitsWith e records ≡ true
-ready-with e records r long = if-so (by-fits-with e records) ((r .fitting, long), no-stray e records (r .idle))
+ready-with e records r long = if-so (fits-with-parts e records) ((r .fitting, long), no-stray e records (r .idle))
 
 module _ (s : State) (h : Sound s) (ready : Ready (s .endpoint)) (id : ℕ) where
   reclaim-taken : badRecord (s .endpoint) (s .records) (findIn (s .records) (s .endpoint .account .occupancy) id) ≡ false
@@ -84,8 +84,8 @@ module _ (s : State) (h : Sound s) (ready : Ready (s .endpoint)) (id : ℕ) wher
   reclaim-taken bad =
       let e = s .endpoint in
       let row : (fitsWith e (s .records) && eqb (length (s .finished)) (ringSize (e .shape .slots)) && eqb (length (s .packets)) packetsSize) ≡ true =
-      if-so (both (both (by-fits-with e (s .records)) (by-eqb (length (s .finished)) (ringSize (e .shape .slots)))) (by-eqb (length (s .packets)) packetsSize))
-      ((by-fits-with e (s .records) .so (ready-with e (s .records) ready (h .recordsLong)), h .finishedLong), h .packetsLong) in
+      if-so (both (both (fits-with-parts e (s .records)) (by-eqb (length (s .finished)) (ringSize (e .shape .slots)))) (by-eqb (length (s .packets)) packetsSize))
+      ((fits-with-parts e (s .records) .so (ready-with e (s .records) ready (h .recordsLong)), h .finishedLong), h .packetsLong) in
       rw (row, bad, ready .idle)
 
   -- The call that is not refused looks the id up.
@@ -139,7 +139,7 @@ reclaim-ready : (e : Endpoint) (finished : ℕ) (records : List ℕ) (packets id
 unfolding reclaimNo reclaimTests
 reclaim-ready e finished records packets id t =
     let row = not-false _ (quiet (reclaimTests e finished records packets id) 0 refl t (omega arith)) in
-    let all = both (both (by-fits-with e records) (by-eqb finished (ringSize (e .shape .slots)))) (by-eqb packets packetsSize) .so row in
+    let all = both (both (fits-with-parts e records) (by-eqb finished (ringSize (e .shape .slots)))) (by-eqb packets packetsSize) .so row in
     record { fitting = all .0 .0 .0 .0; idle = reclaim-idle e finished records packets id t }
 
 module _ (s : State) (h : Sound s) (id : ℕ) where
