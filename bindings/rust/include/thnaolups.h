@@ -20,7 +20,7 @@
  *   2 queue full, or a reset under way       9 packet count differs from the lengths given
  *   3 a length limit broken                 10 nothing
  *   4 all records taken                     11 an event of another ring
- *   5 buffer out of the controller's reach  12 a submission's stores are under way
+ *   5 buffer with a byte above the mask     12 a submission's stores are under way
  *   6 id not in flight                      13 outside the limits of a ring
  *
  * Any numbers are safe, and so are slices of any length: a length that does not fit is answered 1 and leaves everything. So is a word of the
@@ -49,7 +49,8 @@ extern "C" {
 
 /* Makes a ring. Zeroes the ring and empties every table. 13: slots, base, slot id or dci outside the limits, or a ring that crosses a
  * multiple of 65,536; then 1: a table or the endpoint's words of a wrong length. A ring of at most 4096 slots crosses none where its base
- * is a multiple of a power of two that is at least 4096 and at least 16 * slots. */
+ * is a multiple of a power of two that is at least 4096 and at least 16 * slots. The mask is the highest address that the controller
+ * reaches: a buffer's last byte may have it. */
 uint32_t thn_make(
     uint64_t *state, size_t state_len, uint32_t *ring, size_t ring_len, uint32_t *finished,
     size_t finished_len, uint64_t *records, size_t records_len, uint64_t *packets,

@@ -95,7 +95,7 @@ pub struct Place {
     pub slots: usize,
     /// The bus address of slot 0: a multiple of 4,096 from which on the ring crosses no multiple of 65,536. [`alignment`] says how to get one.
     pub base: u64,
-    /// The highest address that the controller reaches.
+    /// The highest address that the controller reaches: a buffer's last byte may have it.
     pub mask: u64,
     /// The slot id of the device, 1 to 255.
     pub slot: u8,
@@ -218,7 +218,7 @@ pub enum Refusal {
     TooLong,
     /// 4: all 64 records are taken.
     NoRecord,
-    /// 5: the buffer reaches beyond the controller's addresses.
+    /// 5: the buffer has a byte above [`Place::mask`]. One whose last byte is the mask's is admitted.
     OutOfReach,
     /// 6: the id to cancel is not in flight.
     NotInFlight,

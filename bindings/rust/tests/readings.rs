@@ -28,6 +28,11 @@ impl Desk {
     }
 
     fn ring_at(&mut self, slots: usize, base: u64) -> Answer<Ring<'_>> {
+        self.ring_below(0xffff_ffff, slots, base)
+    }
+
+    /// One whose controller reaches up to this mask.
+    fn ring_below(&mut self, mask: u64, slots: usize, base: u64) -> Answer<Ring<'_>> {
         let tables = Tables {
             ring: &mut self.ring[..SLOT_WORDS * slots],
             finished: &mut self.finished[..SLOT_WORDS * slots],
@@ -37,7 +42,7 @@ impl Desk {
         let place = Place {
             slots,
             base,
-            mask: 0xffff_ffff,
+            mask,
             slot: 1,
             dci: 1,
         };
@@ -133,7 +138,55 @@ fn w3_w4_the_mask() {
     let mut desk = Desk::new();
     let mut ring = desk.ring(64);
     assert!(ring.submit(&bulk(0xffff_f000, 4095)).is_ok());
-    assert_eq!(ring.submit(&bulk(0xffff_f000, 4096)), Err(Refusal::OutOfReach));
+    assert!(ring.submit(&bulk(0xffff_f000, 4096)).is_ok());
+    assert_eq!(ring.submit(&bulk(0xffff_f000, 4097)), Err(Refusal::OutOfReach));
+}
+
+/// 5 exactly where a byte of the buffer lies above the mask, for buffers round each mask, 2^64 - 1 among them.
+#[test]
+fn each_side_of_a_mask() {
+    let mut desk = Desk::new();
+    for mask in [0, 1, 0xfff, 0xffff_ffff, 1 << 63, u64::MAX - 1, u64::MAX] {
+        for length in [0, 1, 2, 192, 4096, 65_536] {
+            for below in 0..4 {
+                // the last byte two above the mask, one above, at it, one below
+                let address = mask.wrapping_add(3).wrapping_sub(below).wrapping_sub(length);
+                let last = u128::from(address) + u128::from(length) - u128::from(length > 0);
+                let fits = length == 0 || last <= u128::from(mask);
+                let mut ring = desk.ring_below(mask, 8, 0x1_0000).unwrap();
+                let have = ring.submit(&bulk(address, length));
+                assert_eq!(have.is_ok(), fits, "{length} bytes at {address:x} under {mask:x}");
+                assert!(fits || have == Err(Refusal::OutOfReach));
+            }
+        }
+    }
+}
+
+/// A buffer that ends at 2^64, and an empty packet behind it: its address is 0.
+#[test]
+fn an_empty_packet_at_the_top() {
+    let mut desk = Desk::new();
+    let top = 192u64.wrapping_neg();
+    let request = |length, packets| Request::Isoch {
+        direction: In,
+        address: top,
+        length,
+        packets,
+    };
+    let mut ring = desk.ring_below(u64::MAX, 8, 0x1_0000).unwrap();
+    assert_eq!(ring.submit(&request(193, &[192, 1])), Err(Refusal::OutOfReach));
+    let id = ring.submit(&request(192, &[192, 0])).unwrap().id;
+    assert_eq!(ring.slot(0).unwrap()[..3], [0xffff_ff40, 0xffff_ffff, 192]);
+    assert_eq!(ring.slot(1).unwrap()[..3], [0, 0, 0]);
+    for slot in 0..2 {
+        ring.hand_over(event(slot, 1, 0)).unwrap();
+    }
+    let done = ring.reclaim(id).unwrap();
+    assert_eq!((done.length, done.received), (192, true));
+    let actual: Vec<u64> = ring.packets(&done).map(|packet| packet.counted.into()).collect();
+    assert_eq!(actual, [192, 0]);
+    let mut ring = desk.ring_below(u64::MAX - 1, 8, 0x1_0000).unwrap();
+    assert_eq!(ring.submit(&request(192, &[192, 0])), Err(Refusal::OutOfReach));
 }
 
 #[test]

@@ -2,6 +2,7 @@
 pub mod AnsweredLaws
 pub mod AnsweredOnceLaws
 pub mod BoundaryLaws
+pub mod BufferLaws
 pub mod CancelLaws
 pub mod Reached
 pub mod ReachedBookLaws

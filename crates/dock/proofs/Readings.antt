@@ -1,6 +1,6 @@
--- The readings from the bench, W1 to W10 of document 01: each a run of the calls from what making leaves, W9 with its next id set to 2^64-1; one table of
--- tests, and one law from it. All but W1 are computed call by call; W1, whose 64 ISO requests are 4,094 stores, by the law `numbers-are` from the ledger of
--- its submissions.
+-- The readings from the bench, W1 to W10 of document 01, W4 as document 02 has it, and behind them document 02's buffer that ends at 2^64: each a run of the
+-- calls from what making leaves, W9 with its next id set to 2^64-1; one table of tests, and one law from it. All but W1 are computed call by call; W1, whose
+-- 64 ISO requests are 4,094 stores, by the law `numbers-are` from the ledger of its submissions.
 -- Assumes nothing.
 use Prim.Native.Nat.{ℕ, _+_, _-_, _*_, _^_}
 use mathlib.Core.Bool.{Bool, true, false, not, _&&_, and-eq-true-iff}
@@ -43,18 +43,22 @@ use Rattle.dock.proofs.SubmitNumberLaws.{Asked, Ledger, ledgerOf, ledge
 
 -- ---- runs
 
--- The dock that a making leaves of so many slots, at base 10000, with slot id and dci 1 and mask ffffffff, out of tables with 1 in every word,
+-- The dock that a making leaves of so many slots, at base 10000, with a mask, and slot id and dci 1, out of tables with 1 in every word,
 abbrev ones : ℕ → List ℕ
 ones n = replicate n 1
 
 abbrev shapeOf : ℕ → Shape
 shapeOf slots = record { slots = slots; base = 65536 }
 
-abbrev who : Identity
-who = record { slot = 1; dci = 1; mask = 4294967295 }
+abbrev whoWith : ℕ → Identity
+whoWith mask = record { slot = 1; dci = 1; mask = mask }
 
-dockOf : ℕ → State
-dockOf slots = madeOf (make (ones (ringSize slots)) (ones (ringSize slots)) (ones recordsSize) (ones packetsSize) (shapeOf slots) who)
+dockWith : ℕ → ℕ → State
+dockWith mask slots = madeOf (make (ones (ringSize slots)) (ones (ringSize slots)) (ones recordsSize) (ones packetsSize) (shapeOf slots) (whoWith mask))
+
+-- the one with mask ffffffff,
+abbrev dockOf : ℕ → State
+dockOf slots = dockWith 4294967295 slots
 
 -- and the state after calls, in order.
 ran : State → List Call → State
@@ -112,9 +116,12 @@ w2 =
     let s = ran (dockOf 64) (iso 0 0 (replicate 61 0) ∷ []) in
     tells (dockOf 64) (iso 0 0 (replicate 61 0)) 0 (1 ∷ 1 ∷ []) && tells s (control 0 9 1 0 0 0) 2 [] && tells s (bulk 131072 64) 0 (2 ∷ 1 ∷ [])
 
--- W3: mask ffffffff, address fffff000, length 4,095 admitted. W4: length 4,096 gives 5.
+-- W3: mask ffffffff, address fffff000, length 4,095 admitted. W4 is length 4,096. Document 02: "W4 is then admitted, and length 4,097 at that address is
+-- refused."
 w3w4 : Bool
-w3w4 = tells (dockOf 64) (bulk 4294963200 4095) 0 (1 ∷ 1 ∷ []) && tells (dockOf 64) (bulk 4294963200 4096) 5 []
+w3w4 =
+    tells (dockOf 64) (bulk 4294963200 4095) 0 (1 ∷ 1 ∷ []) && tells (dockOf 64) (bulk 4294963200 4096) 0 (1 ∷ 1 ∷ [])
+    && tells (dockOf 64) (bulk 4294963200 4097) 5 []
 
 -- W5: bulk of 64, cycle 1: w3 00000425.
 w5 : Bool
@@ -190,9 +197,22 @@ w10 =
     through : ℕ → ℕ → List Call
     through i id = bulk 131072 64 ∷ event i 1 0 ∷ reclaims id ∷ []
 
+-- Document 02: "An empty packet's address is taken modulo 2^64." Mask 2^64-1, an ISO request of 192 bytes that ends at 2^64, and an empty packet behind them:
+-- it is admitted, and the empty packet's TRB has address 0 and length 0. One byte more is refused, and so is the same buffer where the mask is one less.
+top : Bool
+top =
+    let d = dockWith (2 ^ 64 - 1) 64 in
+    let asks = iso (2 ^ 64 - 192) 192 (192 ∷ 0 ∷ []) in
+    let s = ran d (asks ∷ []) in
+    tells d asks 0 (1 ∷ 1 ∷ [])
+    && eqb (wordIn s 0 0) 4294967104 && eqb (wordIn s 0 1) 4294967295 && eqb (wordIn s 0 2) 192
+    && eqb (wordIn s 1 0) 0 && eqb (wordIn s 1 1) 0 && eqb (wordIn s 1 2) 0
+    && tells d (iso (2 ^ 64 - 192) 193 (192 ∷ 1 ∷ [])) 5 []
+    && tells (dockWith (2 ^ 64 - 2) 64) asks 5 []
+
 -- The table.
 others : List Bool
-others = w2 ∷ w3w4 ∷ w5 ∷ w6 ∷ w7 ∷ w8 ∷ w9 ∷ w10 ∷ []
+others = w2 ∷ w3w4 ∷ w5 ∷ w6 ∷ w7 ∷ w8 ∷ w9 ∷ w10 ∷ top ∷ []
 
 pub readings : List Bool
 readings = w1 ∷ others
@@ -205,15 +225,15 @@ allTrue (b ∷ bs) = b && allTrue bs
 
 -- The making is done,
 reached : Reached (dockOf 4096)
-unfolding dockOf make makeNo makeTests sized limitsHold
-reached = made (making (ones (ringSize 4096)) (ones (ringSize 4096)) (ones recordsSize) (ones packetsSize) (shapeOf 4096) who refl)
+unfolding dockWith make makeNo makeTests sized limitsHold
+reached = made (making (ones (ringSize 4096)) (ones (ringSize 4096)) (ones recordsSize) (ones packetsSize) (shapeOf 4096) (whoWith 4294967295) refl)
 
 -- and leaves the ledger of an empty dock.
 empty : Ledger
 empty = record { slots = 4096; mask = 4294967295; outstanding = 0; occupancy = masks.none; busy = false; reset = false }
 
 ledger-made : ledgerOf (dockOf 4096 .endpoint) ≡ empty
-unfolding empty dockOf make makeNo makeTests sized limitsHold
+unfolding empty dockWith make makeNo makeTests sized limitsHold
 ledger-made = refl
 
 counted : same (ledgerNumbers empty many) (replicate 64 0 ++ (2 ∷ [])) ≡ true
@@ -227,7 +247,7 @@ w1-read = rw (numbers-are reached many, ledger-made) counted
 -- ---- the law
 
 others-read : allTrue others ≡ true
-unfolding others allTrue w2 w3w4 w5 w6 w7 w8 w9 w10 dockOf ran same tells wordIn asking control bulk iso event make makeNo makeTests sized limitsHold configure plainNo plainTests fits placeFits strays fitsWith nextOf trbOf trbCount deferred chained startNo startTests crowded tooLong beyond charged recordTaken idTaken startedEndpoint startedRecords writePackets start store storeNo storeTests stepped slotStored ringStored finishedStored settled storedAnswer finish submit submitNo submitTests slotFor foreign handOverNo handOverTests handOver accepted counts worth leave mismatched completeTests complete placeOf reclaimBulk reclaimControl closeBelow total sweep reclaimIso reclaimTests reclaimNo reclaimFlying reclaim masks.held masks.lowest masks.taken masks.freed freeId freeFrom heldBy any findFrom findId recordAt setWord wordsOf wordsAt storeAt isSlot slotOf putWords put burstsOf packetsOf packetAt putPacket finishedAt fillPlace
+unfolding others allTrue w2 w3w4 w5 w6 w7 w8 w9 w10 top dockWith ran same tells wordIn asking control bulk iso event make makeNo makeTests sized limitsHold configure plainNo plainTests fits placeFits strays fitsWith nextOf trbOf trbCount deferred chained startNo startTests crowded tooLong beyond charged recordTaken idTaken startedEndpoint startedRecords writePackets start store storeNo storeTests stepped slotStored ringStored finishedStored settled storedAnswer finish submit submitNo submitTests slotFor foreign handOverNo handOverTests handOver accepted counts worth leave mismatched completeTests complete placeOf reclaimBulk reclaimControl closeBelow total sweep reclaimIso reclaimTests reclaimNo reclaimFlying reclaim masks.held masks.lowest masks.taken masks.freed freeId freeFrom heldBy any findFrom findId recordAt setWord wordsOf wordsAt storeAt isSlot slotOf putWords put burstsOf packetsOf packetAt putPacket finishedAt fillPlace
 others-read = refl
 
 -- Every reading holds.

@@ -193,10 +193,10 @@ pub by-crowded : (slots outstanding more : ℕ) → Decides (crowded slots outst
 unfolding crowded
 by-crowded slots outstanding more = by-ltb (slots - 2) (outstanding + more)
 
--- Row 5: "length above 0 and (address > mask or address + length > mask)".
-pub by-beyond : (mask address size : ℕ) → Decides (beyond mask address size) ((0 < size) × ((mask < address) ⊎ (mask < address + size)))
+-- Row 5: "length is above 0 and address + length - 1 exceeds the mask".
+pub by-beyond : (mask address size : ℕ) → Decides (beyond mask address size) ((0 < size) × (mask < address + size - 1))
 unfolding beyond
-by-beyond mask address size = both (by-ltb 0 size) (either (by-ltb mask address) (by-ltb mask (address + size)))
+by-beyond mask address size = both (by-ltb 0 size) (by-ltb mask (address + size - 1))
 
 -- Row 3, by the kind of the request.
 module _ (type request value index size : ℕ) (lengths : List ℕ) where

@@ -1,5 +1,5 @@
 -- "The start of a submission stores no TRB; it takes id, record and count, and writes the record's packets anew, unmarked."
-use Prim.Native.Nat.{ℕ, _+_, _*_}
+use Prim.Native.Nat.{ℕ, _+_, _-_, _*_}
 use mathlib.Core.Bool.{Bool, true, false, not, _&&_, _||_}
 use mathlib.Core.List.{List, [], _∷_}
 use lib.Dec.{eqb, ltb}
@@ -53,9 +53,9 @@ abbrev pub isFull : Found → Bool
 isFull (At i) = false
 isFull Full = true
 
--- Row 5: "length above 0 and (address > mask or address + length > mask), the sum exact".
+-- Row 5, document 02: "Answer 5 is now given exactly when length is above 0 and address + length - 1 exceeds the mask, the sum exact."
 unfoldable pub beyond : ℕ → ℕ → ℕ → Bool
-beyond mask address size = ltb 0 size && (ltb mask address || ltb mask (address + size))
+beyond mask address size = ltb 0 size && ltb mask (address + size - 1)
 
 -- "Order: 1, 12, then for a submission 2 (reset), 2 (capacity), 3, 4, 5."
 unfoldable pub startTests : Endpoint → List ℕ → ℕ → Request → List ℕ → List (Bool × ℕ)

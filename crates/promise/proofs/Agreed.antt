@@ -1,4 +1,4 @@
--- The books agree with the dock's own state in every state that a run reaches (`run-agreed`): the ring's shape is the one it was made with, the settings
+-- The books agree with the dock's own state in every state that a run reaches (`run-agreed`): shape and identity are those of the making, the settings
 -- are those of the last configure that was admitted, a record in flight counts as many TRBs as its request has, and while a submission is under way its record
 -- is that of the last request that was admitted, and the TRBs of that request are the last of the list. Assumes nothing.
 use Prim.Native.Nat.{ℕ, _+_, max}
@@ -130,6 +130,7 @@ module _ (e : Endpoint) (records : List ℕ) (a : Asked) (trbs : List Trb) (earl
 
   pub record Agrees : Type 0 where
     pub shape : e .shape ≡ a .shape
+    pub who : e .who ≡ a .who
     pub packet : e .periodic .packet ≡ a .settings .packet
     pub burst : e .periodic .burst ≡ a .settings .burst
     pub interval : e .periodic .interval ≡ max 1 (a .settings .interval)
@@ -148,12 +149,13 @@ behind [] back = refl
 behind (x ∷ front) back = behind front back
 
 module _ (a : Asked) (trbs : List Trb) (earlier : ℕ) (first until : ℕ → ℕ) where
-  -- With none under way, of the endpoint only the shape, the settings and the held records matter, and of the records those in flight.
-  resting : (e after : Endpoint) (records changed : List ℕ) → after .shape ≡ e .shape → after .periodic ≡ e .periodic → after .work ≡ e .work
+  -- With none under way, of the endpoint only the shape, the identity, the settings and the held records matter, and of the records those in flight.
+  resting : (e after : Endpoint) (records changed : List ℕ) → after .shape ≡ e .shape → after .who ≡ e .who → after .periodic ≡ e .periodic → after .work ≡ e .work
       → e .work .busy ≡ false → ((r : ℕ) → flies changed (after .account .occupancy) r ≡ true → flies records (e .account .occupancy) r ≡ true)
       → Alike records changed → Agrees e records a trbs earlier first until → Agrees after changed a trbs earlier first until
-  resting e after records changed shape periodic work free flew alike g = record {
+  resting e after records changed shape who periodic work free flew alike g = record {
     shape = shape ∙ g .shape;
+    who = who ∙ g .who;
     packet = ap (λ (p : Periodic). p .packet) periodic ∙ g .packet;
     burst = ap (λ (p : Periodic). p .burst) periodic ∙ g .burst;
     interval = ap (λ (p : Periodic). p .interval) periodic ∙ g .interval;
@@ -175,7 +177,15 @@ module _ (w : World) (g : Agreed w) where
       (λ (p : plainNo e ≡ 0).
       let free : e .work .busy ≡ false = plain-exact e .passed p 1 (omega arith) in
       rw (configure-yes w packet burst interval p, configure-acts e packet burst interval p)
-      (record { shape = g .shape; packet = refl; burst = refl; interval = refl; of-last = λ b. absurd (false≢true (sym free ∙ b)); ranges = g .ranges }))
+      (record {
+        shape = g .shape;
+        who = g .who;
+        packet = refl;
+        burst = refl;
+        interval = refl;
+        of-last = λ b. absurd (false≢true (sym free ∙ b));
+        ranges = g .ranges;
+      }))
       (λ (p : plainNo e ≡ 0 → ⊥). rw (configure-no w packet burst interval p, configure-refuses e packet burst interval p) g)
       (same-or-not (plainNo e) 0)
 
@@ -215,6 +225,7 @@ module _ (w : World) (g : Agreed w) where
       rw (start-yes w request lengths p, start-acts e (s .records) (s .packets) request lengths p)
       (record {
         shape = g .shape;
+        who = g .who;
         packet = g .packet;
         burst = g .burst;
         interval = g .interval;
@@ -236,12 +247,13 @@ module _ (w : World) (g : Agreed w) where
       (same-or-not (startNo e (s .records) (length (s .packets)) request lengths) 0)
 
   -- A store keeps the record of the submission, and the last one ends it.
-  stored-more : (after : Endpoint) → after .shape ≡ e .shape → after .account ≡ e .account → after .periodic .packet ≡ e .periodic .packet
+  stored-more : (after : Endpoint) → after .shape ≡ e .shape → after .who ≡ e .who → after .account ≡ e .account → after .periodic .packet ≡ e .periodic .packet
       → after .periodic .burst ≡ e .periodic .burst → after .periodic .interval ≡ e .periodic .interval
       → (after .work .busy ≡ true → e .work .busy ≡ true) → (after .work .busy ≡ true → after .work .number ≡ e .work .number)
       → Agrees after (s .records) (w .asked) (w .trbs) (w .earlier) (w .first) (w .until)
-  stored-more after shape account packet burst interval was number = record {
+  stored-more after shape who account packet burst interval was number = record {
     shape = shape ∙ g .shape;
+    who = who ∙ g .who;
     packet = packet ∙ g .packet;
     burst = burst ∙ g .burst;
     interval = interval ∙ g .interval;
@@ -267,7 +279,7 @@ module _ (w : World) (g : Agreed w) where
       (λ (p : storeNo e (length (s .ring)) (length (s .finished)) (s .records) (length (s .packets)) ≡ 0).
       let k = store-keeps e (s .ring) (s .finished) (s .records) (s .packets) p in
       let busy = store-admitted e (s .ring) (s .finished) (s .records) (s .packets) p .busy in
-      stored-more (after s stores .endpoint) (k .shape) (k .account) (k .packet) (k .burst) (k .interval) (λ b. busy)
+      stored-more (after s stores .endpoint) (k .shape) (k .who) (k .account) (k .packet) (k .burst) (k .interval) (λ b. busy)
       (λ b.
       ⊎-elim
       (λ (last : lastStore e (s .records) (s .packets) ≡ true).
@@ -285,7 +297,7 @@ module _ (w : World) (g : Agreed w) where
   same : e .work .busy ≡ false → (changed : List ℕ) → Alike (s .records) changed
       → Agrees e changed (w .asked) (w .trbs) (w .earlier) (w .first) (w .until)
   same free changed alike =
-      resting (w .asked) (w .trbs) (w .earlier) (w .first) (w .until) e e (s .records) changed refl refl refl free
+      resting (w .asked) (w .trbs) (w .earlier) (w .first) (w .until) e e (s .records) changed refl refl refl refl free
       (λ r fly. sym (flies-alike (s .records) changed (e .account .occupancy) r alike) ∙ fly) alike g
 
   cancelled : (id : ℕ) → Agreed (act w (calls (cancels id)))
@@ -312,7 +324,7 @@ module _ (w : World) (g : Agreed w) where
       (λ (n : t .0 ≡ nothing e). rw n (same free (t .1) alike))
       (λ (n : Left e (u .number) (flightPart (s .records) (e .account .occupancy) (u .number)) (t .0)).
       rw (n .gone)
-      (resting (w .asked) (w .trbs) (w .earlier) (w .first) (w .until) e _ (s .records) (t .1) refl refl refl free
+      (resting (w .asked) (w .trbs) (w .earlier) (w .first) (w .until) e _ (s .records) (t .1) refl refl refl refl free
       (λ r fly.
       let b = by-flies (t .1) (masks.freed (e .account .occupancy) (u .number)) r .so fly in
       if-so (by-flies (s .records) (e .account .occupancy) r)
@@ -352,11 +364,11 @@ module _ (ring finished records packets : List ℕ) (shape : Shape) (who : Ident
   none-fly r fly = absurd (false≢true (sym (none-free r) ∙ by-flies (zeros records) masks.none r .so fly .0))
 
   made-agreed : make ring finished records packets shape who .0 .answer ≡ Done
-      → Agreed (fromMaking shape (madeOf (make ring finished records packets shape who)))
+      → Agreed (fromMaking shape who (madeOf (make ring finished records packets shape who)))
   made-agreed done =
       ⊎-elim
       (λ (p : row ≡ 0). rw (make-acts ring finished records packets shape who p)
-      (record { shape = refl; packet = refl; burst = refl; interval = refl; of-last = λ b. absurd (false≢true b); ranges = none-fly }))
+      (record { shape = refl; who = refl; packet = refl; burst = refl; interval = refl; of-last = λ b. absurd (false≢true b); ranges = none-fly }))
       (λ (p : row ≡ 0 → ⊥).
       absurd (not-done row (sym (ap (λ m. m .0 .answer) (make-refuses ring finished records packets shape who p)) ∙ done)))
       (same-or-not row 0)

@@ -81,7 +81,7 @@ who = record { slot = 1; dci = 1; mask = 0xffffffff }
 
 outset : World
 unfolding makeNo makeTests make sized limitsHold
-outset = fromMaking shape (madeOf (make (tables 20) (tables 20) (tables recordsSize) (tables packetsSize) shape who))
+outset = fromMaking shape who (madeOf (make (tables 20) (tables 20) (tables recordsSize) (tables packetsSize) shape who))
 
 -- The world after the moves, and whether each of them may be made in its turn.
 ended : World × Bool

@@ -50,7 +50,7 @@ module _ (ring finished records packets : List ℕ) (shape : Shape) (who : Ident
   abbrev row : ℕ
   row = makeNo (length ring) (length finished) (length records) (length packets) shape who
 
-  fresh-kept : row ≡ 0 → Kept (fromMaking shape (stateOf (fresh shape who) (zeros ring) (zeros finished) (zeros records) (zeros packets)))
+  fresh-kept : row ≡ 0 → Kept (fromMaking shape who (stateOf (fresh shape who) (zeros ring) (zeros finished) (zeros records) (zeros packets)))
   unfolding makeTests model.made
   fresh-kept passed =
       let tests = make-exact ring finished records packets shape who .passed passed in
@@ -80,7 +80,7 @@ module _ (ring finished records packets : List ℕ) (shape : Shape) (who : Ident
       }
 
   pub made-kept : make ring finished records packets shape who .0 .answer ≡ Done
-      → Kept (fromMaking shape (madeOf (make ring finished records packets shape who)))
+      → Kept (fromMaking shape who (madeOf (make ring finished records packets shape who)))
   made-kept done =
       ⊎-elim
       (λ (p : row ≡ 0). rw (make-acts ring finished records packets shape who p) (fresh-kept p))

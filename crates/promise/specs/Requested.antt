@@ -1,8 +1,9 @@
 -- The TRBs of a request, from what it asks for and the settings that it is submitted under (document 01, "Words of a TRB"), and where each of them must
 -- stand. Nothing here knows the ring, nor the dock's state.
-use Prim.Native.Nat.{ℕ, suc, _+_, _-_, _/_, _%_, _^_}
+use Prim.Native.Nat.{ℕ, suc, _+_, _-_, _/_, _%_, _^_, _<_, _≤_}
 use mathlib.Core.Bool.{Bool, true, false, not, _&&_}
 use mathlib.Core.List.{List, [], _∷_}
+use mathlib.Core.Path.{_≡_}
 use lib.Dec.{eqb, ltb}
 use lib.ListN.{length}
 use Rattle.base.specs.First.{pick}
@@ -10,7 +11,7 @@ use Rattle.base.specs.Fields.{bits}
 use Rattle.bursts.specs.Bursts.{burstsOf}
 use Rattle.trb.specs.Layouts.{wordsOf}
 use Rattle.trb.specs.declared.Trb.{Trb}
-use Rattle.trb.specs.declared.Trb.the-variants.{Normal, Setup, Data, Status, Isoch}
+use Rattle.trb.specs.declared.Trb.the-variants.{Normal, Setup, Data, Status, Isoch, Link, ResetEndpoint, StopEndpoint, SetDequeue}
 use Rattle.dock.specs.declared.Request.{Request}
 use Rattle.dock.specs.declared.What.{What}
 use Rattle.dock.specs.declared.What.the-variants as asks
@@ -42,7 +43,7 @@ some [] = false
 some (n ∷ ns) = true
 
 -- Isoch: "address; w2 length, burst count at bit 17; w3 bit 2 when in, bit 5, bit 9 on all but the last packet, last-burst count at bit 16, bit 31": one TRB a
--- packet, the address running on by each packet's length.
+-- packet, the address running on by each packet's length. Document 02: "An empty packet's address is taken modulo 2^64."
 abbrev pub isochTrbs : Bool → ℕ → ℕ → ℕ → List ℕ → List Trb
 isochTrbs incoming packet burst address [] = []
 isochTrbs incoming packet burst address (n ∷ ns) =
@@ -69,6 +70,47 @@ trbsFor s (asks.Isoch incoming) address size lengths = isochTrbs incoming (s .pa
 
 abbrev pub trbsOf : Settings → Request → List ℕ → List Trb
 trbsOf s request lengths = trbsFor s (request .what) (request .address) (request .length) lengths
+
+-- ---- the bytes that they name
+
+-- The buffer that a TRB names, by address and length: none for a setup, a status, a link or a command.
+abbrev pub addressIn : Trb → ℕ
+addressIn (Normal address size td target short chain interrupt) = address
+addressIn (Setup type request value index size transfer) = 0
+addressIn (Data address size short incoming) = address
+addressIn (Status interrupt incoming) = 0
+addressIn (Isoch address size bursts target short chain interrupt block last frame asap) = address
+addressIn (Link address toggle chain) = 0
+addressIn (ResetEndpoint endpoint slot) = 0
+addressIn (StopEndpoint endpoint slot) = 0
+addressIn (SetDequeue address state endpoint slot) = 0
+
+abbrev pub sizeIn : Trb → ℕ
+sizeIn (Normal address size td target short chain interrupt) = size
+sizeIn (Setup type request value index size transfer) = 0
+sizeIn (Data address size short incoming) = size
+sizeIn (Status interrupt incoming) = 0
+sizeIn (Isoch address size bursts target short chain interrupt block last frame asap) = size
+sizeIn (Link address toggle chain) = 0
+sizeIn (ResetEndpoint endpoint slot) = 0
+sizeIn (StopEndpoint endpoint slot) = 0
+sizeIn (SetDequeue address state endpoint slot) = 0
+
+-- Each byte that each of them names lies at most at the mask.
+abbrev pub AllBelow : ℕ → List Trb → Type 0
+AllBelow mask [] = Unit {0}
+AllBelow mask (t ∷ ts) = ((k : ℕ) → k < sizeIn t → addressIn t + k ≤ mask) × AllBelow mask ts
+
+-- Packets of these lengths, one behind the other from this address on, and their TRBs: each has its packet's length and the address modulo 2^64; where the
+-- packet has a byte, the address itself.
+abbrev pub InTurn : ℕ → List ℕ → List Trb → Type 0
+InTurn address [] [] = Unit {0}
+InTurn address [] (t ∷ ts) = ⊥
+InTurn address (n ∷ ns) [] = ⊥
+InTurn address (n ∷ ns) (t ∷ ts) =
+    ((sizeIn t ≡ n) × (addressIn t ≡ address % 2 ^ 64)) × ((0 < n → addressIn t ≡ address) × InTurn (address + n) ns ts)
+
+-- ---- what a request may say
 
 -- The setup's fields are numbers of their types: u8, u8, u16, u16.
 abbrev pub typed : What → Bool

@@ -30,8 +30,9 @@ use Rattle.promise.specs.Requested.{Settings, atMaking, Last, never, req
 
 -- What was asked of the dock, by the arguments of the calls that were admitted.
 pub record Asked : Type 0 where
-  -- the slots and the base that the ring was made with
+  -- the slots and the base that the ring was made with, and the mask, the slot id and the dci
   pub shape : Shape
+  pub who : Identity
   -- the settings of the last configure, those of the making before any
   pub settings : Settings
   -- the last request
@@ -121,6 +122,7 @@ withSettings w d packet burst interval =
       consumed = w .consumed;
       asked = record {
         shape = w .asked .shape;
+        who = w .asked .who;
         settings = record { packet = packet; burst = burst; interval = interval };
         last = w .asked .last;
       };
@@ -141,7 +143,7 @@ withRequest w d r request lengths =
       dock = d;
       controller = w .controller;
       consumed = w .consumed;
-      asked = record { shape = w .asked .shape; settings = w .asked .settings; last = requested request lengths };
+      asked = record { shape = w .asked .shape; who = w .asked .who; settings = w .asked .settings; last = requested request lengths };
       trbs = w .trbs ++ trbsOf (w .asked .settings) request lengths;
       earlier = length (w .trbs);
       first = withNumber (w .first) r (length (w .trbs));
@@ -251,13 +253,13 @@ may w steps = true
 -- ---- runs
 
 -- A dock as its making leaves it, with its controller at the outset: the ring has the shape that was given, and no request has come.
-abbrev pub fromMaking : Shape → State → World
-fromMaking shape d =
+abbrev pub fromMaking : Shape → Identity → State → World
+fromMaking shape who d =
     record {
       dock = d;
       controller = outset;
       consumed = [];
-      asked = record { shape = shape; settings = atMaking; last = never };
+      asked = record { shape = shape; who = who; settings = atMaking; last = never };
       trbs = [];
       earlier = 0;
       first = λ r. 0;
@@ -268,7 +270,7 @@ fromMaking shape d =
 pub data Run : World → Type 0 where
   made : (ring finished records packets : List ℕ) (shape : Shape) (who : Identity)
       → make ring finished records packets shape who .0 .answer ≡ Done
-      → Run (fromMaking shape (madeOf (make ring finished records packets shape who)))
+      → Run (fromMaking shape who (madeOf (make ring finished records packets shape who)))
   andThen : {w : World} → Run w → (m : Move) → may w m ≡ true → Run (act w m)
 
 -- Many steps of the controller.

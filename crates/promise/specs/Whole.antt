@@ -39,7 +39,7 @@ between steps = true
 pub data WholeRun : World → Type 0 where
   made : (ring finished records packets : List ℕ) (shape : Shape) (who : Identity)
       → make ring finished records packets shape who .0 .answer ≡ Done
-      → WholeRun (fromMaking shape (madeOf (make ring finished records packets shape who)))
+      → WholeRun (fromMaking shape who (madeOf (make ring finished records packets shape who)))
   andThen : {w : World} → WholeRun w → (m : Move) → between m ≡ true → may w m ≡ true → WholeRun (act w m)
   andSubmits : {w : World} → WholeRun w → (request : Request) (lengths : List ℕ) (pauses : ℕ → ℕ) → typed (request .what) ≡ true
       → WholeRun (submitted w request lengths pauses)

@@ -52,8 +52,8 @@ pub const FAMILIES: [Family; 3] = [
         calls: &[
             "control\t80\t6\t100\t0\t20000\t18",
             "control\t0\t9\t1\t0\t20000\t2",
-            "whole\tbulk\t1\tfffff000\t4095",
-            "bulk\t1\tfffff000\t4096",
+            "whole\tbulk\t1\tfffff000\t4096",
+            "bulk\t1\tfffff000\t4097",
             "iso\t1\t20000\t30\t10\t10\t10",
             "event\tfffff000\tffffffff\t1000000\t7028000",
             "event\tfffff010\tffffffff\td000005\t7028000",

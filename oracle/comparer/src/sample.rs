@@ -96,6 +96,7 @@ fn shows(session: &Session) -> BTreeSet<String> {
     let mut code = String::new();
     let mut frame = 0u64;
     let mut begun = String::new();
+    let mut mask = 0;
     for line in &session.lines {
         let line = fields(line);
         let word = line[0];
@@ -109,6 +110,11 @@ fn shows(session: &Session) -> BTreeSet<String> {
         if word == "begin" {
             begun = request.clone();
         }
+        let asked = if ["begin", "whole"].contains(&word) { &line[1..] } else { &line[..] };
+        let buffer = buffer_of(asked);
+        if let Some((address, length)) = buffer {
+            shown.insert(format!("buffer {request} {}", side_of(mask, address, length)));
+        }
         if word == "event" {
             code = line[3].chars().rev().skip(6).collect::<Vec<_>>().iter().rev().collect();
         }
@@ -119,6 +125,7 @@ fn shows(session: &Session) -> BTreeSet<String> {
         if word == "ring" {
             let slots: u64 = line[1].parse().expect("a number");
             let base = u64::from_str_radix(line[2], 16).expect("a number");
+            mask = u64::from_str_radix(line[3], 16).expect("a number");
             // within document 01's limits
             if (3..=4096).contains(&slots) && base % 4096 == 0 && base.checked_add(16 * slots - 1).is_some() {
                 let end = match (base % BOUNDARY + 16 * slots).cmp(&BOUNDARY) {
@@ -239,10 +246,40 @@ fn shows(session: &Session) -> BTreeSet<String> {
                 let w3 = u32::from_str_radix(store[5], 16).expect("a word");
                 let class = |n: u32, most: u32| if n > 1 && n < most { 2 } else { n };
                 shown.insert(format!("burst {} {}", class(w2 >> 17 & 31, 31), class(w3 >> 16 & 15, 15)));
+                let begins_at_0 = buffer.is_some_and(|(address, length)| address == 0 || length == 0);
+                if word != "store" && !begins_at_0 && store[2..4] == ["00000000", "00000000"] {
+                    shown.insert("wrap address of an empty packet".to_string());
+                }
             }
         }
     }
     shown
+}
+
+/// The address and the length of a request's buffer.
+fn buffer_of(request: &[&str]) -> Option<(u64, u64)> {
+    let at = match request[0] {
+        "control" => 5,
+        "bulk" | "interrupt" | "iso" => 2,
+        _ => return None,
+    };
+    let address = u64::from_str_radix(request[at], 16).expect("an address");
+    Some((address, request[at + 1].parse().expect("a length")))
+}
+
+/// Where a buffer lies that is asked for under this mask.
+fn side_of(mask: u64, address: u64, length: u64) -> &'static str {
+    if length == 0 {
+        return if address > mask { "of none above the mask" } else { "of none" };
+    }
+    let end = u128::from(address) + u128::from(length);
+    match end.cmp(&(u128::from(mask) + 1)) {
+        Ordering::Less => "before the mask",
+        Ordering::Equal if mask == u64::MAX => "just fits below 2^64",
+        Ordering::Equal => "just fits",
+        Ordering::Greater if end == u128::from(mask) + 2 => "a byte past the mask",
+        Ordering::Greater => "past the mask",
+    }
 }
 
 fn out_is_bell(answers: &std::str::Lines<'_>) -> bool {

@@ -1,40 +1,27 @@
--- `is_beyond` meets its contract, by its tests. Assumes nothing.
-use Prim.Native.Nat.{_+_}
+-- `is_beyond` meets its contract: at each return the tests of the code decide the fact of row 5. Assumes nothing.
 use native.Mathlib.Omega.{arith}
-use Rattle.base.proofs.Decide.{if-so, if-not, by-ltb}
-use Rattle.dock.specs.Start.{beyond}
+use Rattle.base.proofs.Decide.{holds, fails}
+use Rattle.dock.proofs.RefusalTestLaws.{by-beyond}
 use Rattle.admission.proofs.is_beyond.Statement.{statement}
 use Rattle.admission.proofs.is_beyond.Tie as tie
 
 returns : tie.Need-returns
-unfolding beyond
-returns c = let q = c .before .before .args .request in simp (if-not (by-ltb 0 (q .length)) (λ z. omega arith))
+returns c = let a = c .before .before .args in fails (by-beyond (a .mask) (a .request .address) (a .request .length)) (λ k. omega (arith, k .0))
 
 returns-2 : tie.Need-returns-2
-unfolding beyond
-returns-2 c = let m = c .before .before .before .before .args .mask in let q = c .before .before .before .before .args .request in simp (if-so (by-ltb 0 (q .length)) (omega arith), if-so (by-ltb m (q .address)) (omega arith))
+returns-2 c =
+    let a = c .before .before .before .before .args in
+    holds (by-beyond (a .mask) (a .request .address) (a .request .length)) (omega arith, omega arith)
 
 returns-3 : tie.Need-returns-3
-unfolding beyond
 returns-3 c =
-    let m = c .before .before .before .before .before .before .before .args .mask in
-    let q = c .before .before .before .before .before .before .before .args .request in
-    simp (
-      if-so (by-ltb 0 (q .length)) (omega arith),
-      if-not (by-ltb m (q .address)) (λ z. omega arith),
-      if-so (by-ltb m (q .address + q .length)) (omega arith),
-    )
+    let a = c .before .before .before .before .before .before .before .args in
+    holds (by-beyond (a .mask) (a .request .address) (a .request .length)) (omega arith, omega arith)
 
 returns-4 : tie.Need-returns-4
-unfolding beyond
 returns-4 c =
-    let m = c .before .before .before .before .before .before .before .args .mask in
-    let q = c .before .before .before .before .before .before .before .args .request in
-    simp (
-      if-so (by-ltb 0 (q .length)) (omega arith),
-      if-not (by-ltb m (q .address)) (λ z. omega arith),
-      if-not (by-ltb m (q .address + q .length)) (λ z. omega arith),
-    )
+    let a = c .before .before .before .before .before .before .before .args in
+    fails (by-beyond (a .mask) (a .request .address) (a .request .length)) (λ k. omega (arith, k .1))
 
 pub is-beyond-spec : {M : Type 1} → statement M
 is-beyond-spec = tie.close (tie.spec returns returns-2 returns-3 returns-4)
