@@ -6,13 +6,12 @@ use Prim.Native.Nat.{ℕ, _+_, _-_, _%_, _^_, _<_, _≤_}
 use mathlib.Core.Bool.{Bool, true, false, false≢true}
 use mathlib.Core.List.{List, [], _∷_, _++_}
 use mathlib.Core.Logic.{inr, ⊎-elim}
-use mathlib.Core.Path.{_≡_, refl, sym, ap, _∙_}
+use mathlib.Core.Path.{_≡_, refl, sym, ap, _∙_, subst}
 use native.Mathlib.Nat.{mod-eq-of-lt}
 use native.Mathlib.Omega.{arith}
 use borrow.Author.Tests.{eq-eqb, ne-eqb}
 use lib.Dec.{eqb}
 use lib.ListN.{length}
-use Rattle.base.specs.Fields.{bits}
 use Rattle.base.proofs.Compare.{lt-or-le, same-or-not}
 use Rattle.trb.specs.declared.Trb.{Trb}
 use Rattle.dock.specs.declared.Endpoint.{Endpoint}
@@ -24,11 +23,11 @@ use Rattle.dock.specs.Run.{Call, configures, starts, stores, submits, reclaims,
 use Rattle.dock.specs.Run as dock
 use Rattle.dock.specs.Start.{sumOf, tooLong, beyond, atLeastOne, startNo}
 use Rattle.dock.proofs.BufferLaws.{by-bytes}
-use Rattle.dock.proofs.RefusalTestLaws.{by-too-long-isoch, by-beyond}
+use Rattle.dock.proofs.RefusalTestLaws.{by-too-long-isoch}
 use Rattle.dock.proofs.RetireLaws.{picked}
 use Rattle.dock.proofs.StartLaws.{start-admitted}
-use Rattle.promise.specs.Requested.{Settings, addressStored, controlTrbs, isochTrbs, trbsFor, trbsOf, sizeIn, addressIn, AllBelow, InTurn}
-use Rattle.promise.specs.Run.{World, admits, handed, stepped, Move, calls, hands, steps, act, may, Run, made, andThen}
+use Rattle.promise.specs.Requested.{Settings, addressStored, isochTrbs, trbsFor, trbsOf, AllBelow, InTurn}
+use Rattle.promise.specs.Run.{World, admits, handed, stepped, Move, calls, hands, steps, act, Run, made, andThen}
 use Rattle.promise.proofs.Agreed.{Agreed, start-no, run-agreed}
 
 -- ---- the TRBs of one request
@@ -101,7 +100,8 @@ module _ (mask : ℕ) (wide : mask < 2 ^ 64) (s : Settings) (incoming : Bool) (a
     (short : tooLong (asks.Isoch incoming) size lengths ≡ false) (reach : beyond mask address size ≡ false) where
   pub packets-in-turn : InTurn (addressStored address size) (atLeastOne lengths) (trbsFor s (asks.Isoch incoming) address size lengths)
   packets-in-turn =
-      rw (← mod-eq-of-lt from) at
+      subst (λ (x : ℕ). InTurn (addressStored address size) (atLeastOne lengths) (isochTrbs incoming (s .packet) (s .burst) x (atLeastOne lengths)))
+      (mod-eq-of-lt from)
       (in-turn incoming (s .packet) (s .burst) (addressStored address size) (atLeastOne lengths)
       (omega (arith, wide, stored-end mask address size reach, sum-within incoming size lengths short)))
     where
@@ -126,7 +126,7 @@ module _ (w : World) (g : Agreed w) (b : Below w) where
 
   started-below : (request : Request) (lengths : List ℕ) → admits w (starts request lengths) ≡ true
       → AllBelow (w .asked .who .mask) (w .trbs ++ trbsOf (w .asked .settings) request lengths)
-  started-below request lengths yes =
+  started-below request lengths granted =
       ⊎-elim
       (λ (p : startNo e (w .dock .records) (length (w .dock .packets)) request lengths ≡ 0).
       let k = start-admitted e (w .dock .records) (w .dock .packets) request lengths p in
@@ -134,7 +134,7 @@ module _ (w : World) (g : Agreed w) (b : Below w) where
       (trbs-below (w .asked .who .mask) (w .asked .settings) request lengths (k .short)
       (ap (λ (x : Identity). beyond (x .mask) (request .address) (request .length)) (sym (g .who)) ∙ k .reach)))
       (λ (p : startNo e (w .dock .records) (length (w .dock .packets)) request lengths ≡ 0 → ⊥).
-      absurd (false≢true (sym (start-no w request lengths p) ∙ yes)))
+      absurd (false≢true (sym (start-no w request lengths p) ∙ granted)))
       (same-or-not (startNo e (w .dock .records) (length (w .dock .packets)) request lengths) 0)
 
   call-below : (c : Call) → Below (act w (calls c))

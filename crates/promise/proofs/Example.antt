@@ -140,6 +140,7 @@ at-rest = (refl, refl, refl, refl)
 all-asked : play outset moves .asked
     ≡ record {
       shape = shape;
+      who = who;
       settings = record { packet = 64; burst = 0; interval = 1 };
       last = requested (asking (Isoch true) 0x40000 128) (64 ∷ 64 ∷ []);
     }

@@ -1,5 +1,6 @@
 -- `is_beyond` meets its contract: at each return the tests of the code decide the fact of row 5. Assumes nothing.
 use native.Mathlib.Omega.{arith}
+use borrow.Author.Needs.{needs}
 use Rattle.base.proofs.Decide.{holds, fails}
 use Rattle.dock.proofs.RefusalTestLaws.{by-beyond}
 use Rattle.admission.proofs.is_beyond.Statement.{statement}
@@ -24,4 +25,4 @@ returns-4 c =
     fails (by-beyond (a .mask) (a .request .address) (a .request .length)) (λ k. omega (arith, k .1))
 
 pub is-beyond-spec : {M : Type 1} → statement M
-is-beyond-spec = tie.close (tie.spec returns returns-2 returns-3 returns-4)
+is-beyond-spec = tie.close (tie.spec returns returns-2 (λ c. search needs) returns-3 returns-4)
