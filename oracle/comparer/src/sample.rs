@@ -110,7 +110,11 @@ fn shows(session: &Session) -> BTreeSet<String> {
         if word == "begin" {
             begun = request.clone();
         }
-        let asked = if ["begin", "whole"].contains(&word) { &line[1..] } else { &line[..] };
+        let asked = if ["begin", "whole"].contains(&word) {
+            &line[1..]
+        } else {
+            &line[..]
+        };
         let buffer = buffer_of(asked);
         if let Some((address, length)) = buffer {
             shown.insert(format!("buffer {request} {}", side_of(mask, address, length)));
