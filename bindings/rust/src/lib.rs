@@ -266,7 +266,7 @@ impl fmt::Display for Refusal {
             Refusal::QueueFull => f.write_str("queue full"),
             Refusal::TooLong => f.write_str("a length is over its limit"),
             Refusal::NoRecord => f.write_str("all records are taken"),
-            Refusal::OutOfReach => f.write_str("buffer out of the controller's reach"),
+            Refusal::OutOfReach => f.write_str("buffer with a byte above the mask"),
             Refusal::NotInFlight => f.write_str("request not in flight"),
             Refusal::Cancelled => f.write_str("cancelled"),
             Refusal::Failed(code) => write!(f, "completion code {code}"),

@@ -1,4 +1,4 @@
-//! Document 01's "Readings from the bench", W1 to W10, through the typed interface.
+//! Document 01's "Readings from the bench", W1 to W10, W4 as document 02 has it, and what stands beside them, through the typed interface.
 use thnaolups::{
     alignment, Answer, Direction::In, Place, Refusal, Request, Ring, Stored, Tables, Words, LEAST_SLOTS, MOST_SLOTS, PACKETS_SIZE,
     RECORDS_SIZE, SLOT_WORDS,

@@ -98,7 +98,7 @@ fn is_full(occupancy: Occupancy) -> bool
     }
 }
 
-// Row 5: "length is above 0 and address + length - 1 exceeds the mask, the sum exact".
+// Row 5, document 02: "length is above 0 and address + length - 1 exceeds the mask, the sum exact".
 fn is_beyond(mask: u64, request: Request) -> bool
     ensures { λ r. ⌜ r ≡ beyond mask (request .address) (request .length) ⌝ }
 {

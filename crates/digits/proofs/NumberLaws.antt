@@ -1,11 +1,10 @@
 -- A number with one digit more, and its limit. Assumes nothing.
 use Prim.Native.Nat.{ℕ, _+_, _-_, _*_, _/_, _≤_, _<_}
-use mathlib.Core.Bool.{Bool, true, false}
-use mathlib.Core.Path.{_≡_, refl, sym}
+use mathlib.Core.Path.{_≡_}
 use native.Mathlib.Nat.{le-div-iff-mul-le}
 use native.Mathlib.Omega.{arith}
 use lib.Dec.{leb}
-use Rattle.base.proofs.Decide.{Decides, by-leb, by-ltb, both, if-so, if-not}
+use Rattle.base.proofs.Decide.{Decides, by-leb, by-ltb, both, reworded, same-test}
 use Rattle.digits.specs.Digits.{fits}
 
 module _ (value base digit most : ℕ) where
@@ -19,8 +18,9 @@ module _ (value base digit most : ℕ) where
   divided small least =
       let some : 0 < base = omega arith in
       let same = le-div-iff-mul-le {k = base} {x = value} {y = most - digit} some in
-      decided (by-leb value ((most - digit) / base)) (λ h. (small, let k : value * base ≤ most - digit = same .0 h in omega arith)) (λ h. let k : value * base ≤ most - digit = omega (arith, h .1) in same .1 k)
-    where
-      decided : {b : Bool} {P : Type 0} → Decides b P → (P → (digit < base) × (value * base + digit ≤ most)) → ((digit < base) × (value * base + digit ≤ most) → P) → b ≡ fits value base digit most
-      decided {b = true} d there back = sym (if-so by-fits (there (d .so refl)))
-      decided {b = false} d there back = sym (if-not by-fits (λ h. d .not-so refl (back h)))
+      same-test
+      (reworded
+      (λ h. (small, let k : value * base ≤ most - digit = same .0 h in omega arith))
+      (λ h. let k : value * base ≤ most - digit = omega (arith, h .1) in same .1 k)
+      (by-leb value ((most - digit) / base)))
+      by-fits

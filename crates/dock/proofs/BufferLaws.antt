@@ -1,14 +1,14 @@
--- Document 02, "A buffer that just fits is refused": row 5 refuses a buffer exactly where a byte of it lies above the mask (`by-bytes`), under the mask 2^64-1
--- exactly where it ends above 2^64 (`by-top`); one that ends at the mask's own byte is admitted, a byte more is not (`just-fits`, `one-more`), and one of no
--- bytes is, wherever it stands (`empty-fits`). It is document 01's rule but for the buffer that just fits (`else-as-before`). Assumes nothing.
+-- Document 02, "A buffer that just fits is refused": row 5 holds of a buffer exactly where a byte of it lies above the mask (`by-bytes`), under the mask 2^64-1
+-- exactly where it has a byte and ends above 2^64 (`by-top`); not where its last byte is the mask's, but where it goes on behind that (`just-fits`,
+-- `one-more`), and never where it has no byte (`empty-fits`). It is document 01's rule but for the buffer that just fits (`else-as-before`). Assumes nothing.
 use Prim.Native.Nat.{ℕ, _+_, _-_, _^_, _<_, _≤_}
-use mathlib.Core.Bool.{Bool, true, false, _&&_, _||_}
+use mathlib.Core.Bool.{true, false, _&&_, _||_}
 use mathlib.Core.Logic.{_⊎_, inr, ⊎-elim}
 use mathlib.Core.Path.{_≡_, refl}
 use native.Mathlib.Omega.{arith}
 use lib.Dec.{ltb}
 use Rattle.base.proofs.Compare.{lt-or-le}
-use Rattle.base.proofs.Decide.{Decides, by-ltb, both, either, reworded, if-so, if-not}
+use Rattle.base.proofs.Decide.{Decides, by-ltb, both, either, reworded, same-test, if-so, if-not}
 use Rattle.dock.specs.Start.{beyond}
 use Rattle.dock.proofs.RefusalTestLaws.{by-beyond}
 
@@ -28,6 +28,7 @@ module _ (mask address size : ℕ) where
   pub just-fits : address + size ≡ mask + 1 → beyond mask address size ≡ false
   just-fits end = if-not (by-beyond mask address size) (λ k. omega (arith, end, k .0, k .1))
 
+  -- It goes on behind that.
   pub one-more : 0 < size → mask + 1 < address + size → beyond mask address size ≡ true
   one-more some over = if-so (by-beyond mask address size) (some, omega (arith, some, over))
 
@@ -35,10 +36,6 @@ module _ (mask address size : ℕ) where
   pub else-as-before : (address + size ≡ mask + 1 → ⊥) → beyond mask address size ≡ (ltb 0 size && (ltb mask address || ltb mask (address + size)))
   else-as-before other = same-test (by-beyond mask address size) (reworded there back before)
     where
-      same-test : {a b : Bool} {P : Type 0} → Decides a P → Decides b P → a ≡ b
-      same-test {b = true} d f = if-so d (f .so refl)
-      same-test {b = false} d f = if-not d (f .not-so refl)
-
       before : Decides (ltb 0 size && (ltb mask address || ltb mask (address + size))) ((0 < size) × ((mask < address) ⊎ (mask < address + size)))
       before = both (by-ltb 0 size) (either (by-ltb mask address) (by-ltb mask (address + size)))
 
@@ -53,7 +50,7 @@ module _ (mask address size : ℕ) where
       back : (0 < size) × (mask < address + size - 1) → (0 < size) × ((mask < address) ⊎ (mask < address + size))
       back k = (k .0, inr (omega (arith, k .0, k .1)))
 
--- Under the mask 2^64-1 the last byte may be 2^64-1.
+-- Under the mask 2^64-1 the last byte may stand at 2^64-1.
 pub by-top : (address size : ℕ) → Decides (beyond (2 ^ 64 - 1) address size) ((0 < size) × (2 ^ 64 < address + size))
 by-top address size =
     reworded (λ k. (k .0, omega (arith, k .0, k .1))) (λ k. (k .0, omega (arith, k .0, k .1))) (by-beyond (2 ^ 64 - 1) address size)

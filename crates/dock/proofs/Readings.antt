@@ -1,4 +1,4 @@
--- The readings from the bench, W1 to W10 of document 01, W4 as document 02 has it, and behind them document 02's buffer that ends at 2^64: each a run of the
+-- The readings from the bench, W1 to W10 of document 01, W4 as document 02 has it, and behind them document 02's empty packet at 2^64: each a run of the
 -- calls from what making leaves, W9 with its next id set to 2^64-1; one table of tests, and one law from it. All but W1 are computed call by call; W1, whose
 -- 64 ISO requests are 4,094 stores, by the law `numbers-are` from the ledger of its submissions.
 -- Assumes nothing.

@@ -193,7 +193,7 @@ pub by-crowded : (slots outstanding more : ℕ) → Decides (crowded slots outst
 unfolding crowded
 by-crowded slots outstanding more = by-ltb (slots - 2) (outstanding + more)
 
--- Row 5: "length is above 0 and address + length - 1 exceeds the mask".
+-- Row 5, document 02: "length is above 0 and address + length - 1 exceeds the mask".
 pub by-beyond : (mask address size : ℕ) → Decides (beyond mask address size) ((0 < size) × (mask < address + size - 1))
 unfolding beyond
 by-beyond mask address size = both (by-ltb 0 size) (by-ltb mask (address + size - 1))

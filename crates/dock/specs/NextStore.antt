@@ -32,12 +32,12 @@ storeTests e ring finished records packets =
 unfoldable pub storeNo : Endpoint → ℕ → ℕ → List ℕ → ℕ → ℕ
 storeNo e ring finished records packets = first (storeTests e ring finished records packets)
 
--- The work with so many TRBs stored, and the running address, which an ISO packet moves on by its length. Document 02: "An empty packet's address is taken
--- modulo 2^64."
+-- The work with so many TRBs stored, and the running address,
 abbrev pub withStored : Work → ℕ → ℕ → Work
 withStored w stored address =
     record { busy = true; number = w .number; stored = stored; address = address; place = w .place; cycle = w .cycle }
 
+-- which an ISO packet moves on by its length, modulo 2^64. Document 02: "An empty packet's address is taken modulo 2^64."
 abbrev pub runOn : Endpoint → Record → List ℕ → ℕ
 runOn e v packets =
     pick (eqb (v .kind) isoch) ((e .work .address + packetSize e packets (e .work .stored)) % 2 ^ 64) (e .work .address)

@@ -11,7 +11,7 @@ pub struct Shape {
     pub base: u64,
 }
 
-// Who the endpoint is: slot id and dci, and the addresses that its controller reaches.
+// Who the endpoint is: slot id and dci, and the highest address that its controller reaches.
 pub struct Identity {
     pub slot: u8,
     pub dci: u8,

@@ -246,7 +246,7 @@ module _ (lengths : List ℕ) (id place r : ℕ) (packets : List ℕ) (sized : l
 -- As many as the request takes.
 isoch-count : (incoming : Bool) (packet burst address : ℕ) (ns : List ℕ) → length (isochTrbs incoming packet burst address ns) ≡ length ns
 isoch-count incoming packet burst address [] = refl
-isoch-count incoming packet burst address (n ∷ ns) = ap suc (isoch-count incoming packet burst ((address + n) % 2 ^ 64) ns)
+isoch-count incoming packet burst address (n ∷ ns) = ap suc (isoch-count incoming packet burst _ ns)
 
 control-count : (type request value index address size : ℕ) (incoming b : Bool) → eqb size 0 ≡ b
     → length (controlTrbs type request value index address size incoming) ≡ pick b 2 3
@@ -273,7 +273,7 @@ plain-trb t other = ne-eqb (typeOf (bare t)) 6 (λ q. other (sym (type-is t fals
 module _ (K : ℕ) where
   isoch-plain : (incoming : Bool) (packet burst address : ℕ) (ns : List ℕ) → Plain (flat K) (bared (isochTrbs incoming packet burst address ns))
   isoch-plain incoming packet burst address [] = tt
-  isoch-plain incoming packet burst address (n ∷ ns) = (plain-trb _ (λ q. omega arith), isoch-plain incoming packet burst ((address + n) % 2 ^ 64) ns)
+  isoch-plain incoming packet burst address (n ∷ ns) = (plain-trb _ (λ q. omega arith), isoch-plain incoming packet burst _ ns)
 
   control-plain : (type request value index address size : ℕ) (incoming : Bool)
       → Plain (flat K) (bared (controlTrbs type request value index address size incoming))

@@ -3,7 +3,7 @@ pub mod Laid
 pub mod Kept
 pub mod Asked
 pub mod Agreed
-pub mod Below
+pub mod NoneAbove
 pub mod Made
 pub mod Stepped
 pub mod Awaited

@@ -1,5 +1,5 @@
--- The TRBs of a request, from what it asks for and the settings that it is submitted under (document 01, "Words of a TRB"), and where each of them must
--- stand. Nothing here knows the ring, nor the dock's state.
+-- The TRBs of a request, from what it asks for and the settings that it is submitted under (document 01, "Words of a TRB"), the bytes that they name, and
+-- where each of them must stand. Nothing here knows the ring, nor the dock's state.
 use Prim.Native.Nat.{ℕ, suc, _+_, _-_, _/_, _%_, _^_, _<_, _≤_}
 use mathlib.Core.Bool.{Bool, true, false, not, _&&_}
 use mathlib.Core.List.{List, [], _∷_}
@@ -96,10 +96,10 @@ sizeIn (ResetEndpoint endpoint slot) = 0
 sizeIn (StopEndpoint endpoint slot) = 0
 sizeIn (SetDequeue address state endpoint slot) = 0
 
--- Each byte that each of them names lies at most at the mask.
-abbrev pub AllBelow : ℕ → List Trb → Type 0
-AllBelow mask [] = Unit {0}
-AllBelow mask (t ∷ ts) = ((k : ℕ) → k < sizeIn t → addressIn t + k ≤ mask) × AllBelow mask ts
+-- No byte that one of them names lies above the mask.
+abbrev pub NoneAbove : ℕ → List Trb → Type 0
+NoneAbove mask [] = Unit {0}
+NoneAbove mask (t ∷ ts) = ((k : ℕ) → k < sizeIn t → addressIn t + k ≤ mask) × NoneAbove mask ts
 
 -- Packets of these lengths, one behind the other from this address on, and their TRBs: each has its packet's length and the address modulo 2^64; where the
 -- packet has a byte, the address itself.

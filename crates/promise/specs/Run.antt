@@ -252,7 +252,7 @@ may w steps = true
 
 -- ---- runs
 
--- A dock as its making leaves it, with its controller at the outset: the ring has the shape that was given, and no request has come.
+-- A dock as its making leaves it, with its controller at the outset: shape and identity are those that were given, and no request has come.
 abbrev pub fromMaking : Shape → Identity → State → World
 fromMaking shape who d =
     record {

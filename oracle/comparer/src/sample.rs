@@ -87,7 +87,7 @@ fn fields(line: &str) -> Vec<&str> {
     line.split('\t').collect()
 }
 
-/// What a session shows: each call with its answer, the wraps, the sizes, the codes.
+/// What a session shows: each call with its answer, the wraps, the sizes, the codes, where the buffers lie.
 fn shows(session: &Session) -> BTreeSet<String> {
     let mut shown = BTreeSet::new();
     let out = String::from_utf8_lossy(&session.out);

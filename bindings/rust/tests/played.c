@@ -1,5 +1,5 @@
-/* Examples of the repository's, played through the header: for the lines `ring`, `pointer`, `whole` of a bulk or isochronous request, `slot` and
- * `new` it writes what `drive` writes there. Any other line ends it with 1.
+/* The repository's examples/boundary.drive and examples/mask.drive, played through the header: for the lines `ring`, `pointer`, `whole` of a
+ * bulk or isochronous request, `slot` and `new` it writes what `drive` writes there. Any other line ends it with 1.
  */
 #include "thnaolups.h"
 #include <inttypes.h>

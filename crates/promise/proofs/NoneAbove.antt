@@ -1,7 +1,7 @@
--- Document 02, "A buffer that just fits is refused", of the TRBs that the controller is given. `trbs-below`: no TRB of a request that is admitted names a byte
--- above the mask. `packets-in-turn`: an ISO request's packets stand one behind the other from the buffer's address on, the address of one with no byte modulo
--- 2^64, that of every other one exact. `run-below`: in every state that a run reaches no admitted TRB names a byte above the mask that the dock was made with.
--- Assumes nothing.
+-- Document 02, "A buffer that just fits is refused", of the TRBs that the controller is given. `trbs-none-above`: no TRB of a request that rows 3 and 5 let
+-- pass names a byte above the mask. `packets-in-turn`: under a mask below 2^64 the packets of an ISO request that rows 3 and 5 let pass stand one behind the
+-- other from the buffer's address on (from 0 where its length is 0): the address of one with no byte modulo 2^64, that of every other one exact.
+-- `run-none-above`: in every state that a run reaches no admitted TRB names a byte above the mask that the dock was made with. Assumes nothing.
 use Prim.Native.Nat.{ℕ, _+_, _-_, _%_, _^_, _<_, _≤_}
 use mathlib.Core.Bool.{Bool, true, false, false≢true}
 use mathlib.Core.List.{List, [], _∷_, _++_}
@@ -26,7 +26,7 @@ use Rattle.dock.proofs.BufferLaws.{by-bytes}
 use Rattle.dock.proofs.RefusalTestLaws.{by-too-long-isoch}
 use Rattle.dock.proofs.RetireLaws.{picked}
 use Rattle.dock.proofs.StartLaws.{start-admitted}
-use Rattle.promise.specs.Requested.{Settings, addressStored, isochTrbs, trbsFor, trbsOf, AllBelow, InTurn}
+use Rattle.promise.specs.Requested.{Settings, addressStored, isochTrbs, trbsFor, trbsOf, NoneAbove, InTurn}
 use Rattle.promise.specs.Run.{World, admits, handed, stepped, Move, calls, hands, steps, act, Run, made, andThen}
 use Rattle.promise.proofs.Agreed.{Agreed, start-no, run-agreed}
 
@@ -48,8 +48,8 @@ module _ (mask address size : ℕ) (reach : beyond mask address size ≡ false) 
       (λ (q : size ≡ 0 → ⊥). rw (ne-eqb size 0 q) (end (omega (arith, q))))
       (same-or-not size 0)
 
-  normal-below : (k : ℕ) → k < size → addressStored address size + k ≤ mask
-  normal-below k l = omega (arith, stored-end, l)
+  normal-byte : (k : ℕ) → k < size → addressStored address size + k ≤ mask
+  normal-byte k l = omega (arith, stored-end, l)
 
 -- The sum of the lengths is at most the buffer's.
 module _ (incoming : Bool) (size : ℕ) (lengths : List ℕ) (short : tooLong (asks.Isoch incoming) size lengths ≡ false) where
@@ -65,26 +65,26 @@ module _ (incoming : Bool) (size : ℕ) (lengths : List ℕ) (short : tooLong (a
           ⊎-elim (λ (h : size < sumOf lengths). absurd (by-too-long-isoch incoming size lengths .not-so short (inr h))) (λ (h : sumOf lengths ≤ size). h)
           (lt-or-le size (sumOf lengths))
 
-isoch-below : (mask : ℕ) (incoming : Bool) (packet burst address : ℕ) (ns : List ℕ) → address + sumOf ns ≤ mask + 1
-    → AllBelow mask (isochTrbs incoming packet burst address ns)
-isoch-below mask incoming packet burst address [] e = tt
-isoch-below mask incoming packet burst address (n ∷ ns) e =
-    (λ k l. omega (arith, e, l), isoch-below mask incoming packet burst ((address + n) % 2 ^ 64) ns (omega (arith, e)))
+isoch-none-above : (mask : ℕ) (incoming : Bool) (packet burst address : ℕ) (ns : List ℕ) → address + sumOf ns ≤ mask + 1
+    → NoneAbove mask (isochTrbs incoming packet burst address ns)
+isoch-none-above mask incoming packet burst address [] e = tt
+isoch-none-above mask incoming packet burst address (n ∷ ns) e =
+    (λ k l. omega (arith, e, l), isoch-none-above mask incoming packet burst _ ns (omega (arith, e)))
 
-pub trbs-below : (mask : ℕ) (s : Settings) (request : Request) (lengths : List ℕ) → tooLong (request .what) (request .length) lengths ≡ false
-    → beyond mask (request .address) (request .length) ≡ false → AllBelow mask (trbsOf s request lengths)
-trbs-below mask s request lengths = by (request .what) (request .address) (request .length)
+pub trbs-none-above : (mask : ℕ) (s : Settings) (request : Request) (lengths : List ℕ) → tooLong (request .what) (request .length) lengths ≡ false
+    → beyond mask (request .address) (request .length) ≡ false → NoneAbove mask (trbsOf s request lengths)
+trbs-none-above mask s request lengths = by (request .what) (request .address) (request .length)
   where
     by : (what : What) (address size : ℕ) → tooLong what size lengths ≡ false → beyond mask address size ≡ false
-        → AllBelow mask (trbsFor s what address size lengths)
+        → NoneAbove mask (trbsFor s what address size lengths)
     by (asks.Control type code value index) address size short reach =
-        picked (AllBelow mask) (eqb size 0) _ _
+        picked (NoneAbove mask) (eqb size 0) _ _
         (λ t. (λ k l. omega (arith, l), (λ k l. omega (arith, l), tt)))
         (λ t. (λ k l. omega (arith, l), (each-byte mask address size reach, (λ k l. omega (arith, l), tt))))
-    by (asks.Bulk incoming) address size short reach = (normal-below mask address size reach, tt)
-    by (asks.Interrupt incoming) address size short reach = (normal-below mask address size reach, tt)
+    by (asks.Bulk incoming) address size short reach = (normal-byte mask address size reach, tt)
+    by (asks.Interrupt incoming) address size short reach = (normal-byte mask address size reach, tt)
     by (asks.Isoch incoming) address size short reach =
-        isoch-below mask incoming (s .packet) (s .burst) (addressStored address size) (atLeastOne lengths)
+        isoch-none-above mask incoming (s .packet) (s .burst) (addressStored address size) (atLeastOne lengths)
         (omega (arith, stored-end mask address size reach, sum-within incoming size lengths short))
 
 -- ---- where the packets stand
@@ -113,51 +113,51 @@ module _ (mask : ℕ) (wide : mask < 2 ^ 64) (s : Settings) (incoming : Bool) (a
 
 -- ---- runs
 
-both-below : (mask : ℕ) (front back : List Trb) → AllBelow mask front → AllBelow mask back → AllBelow mask (front ++ back)
-both-below mask [] back a b = b
-both-below mask (t ∷ front) back a b = (a .0, both-below mask front back (a .1) b)
+both-none-above : (mask : ℕ) (front back : List Trb) → NoneAbove mask front → NoneAbove mask back → NoneAbove mask (front ++ back)
+both-none-above mask [] back a b = b
+both-none-above mask (t ∷ front) back a b = (a .0, both-none-above mask front back (a .1) b)
 
-abbrev Below : World → Type 0
-Below w = AllBelow (w .asked .who .mask) (w .trbs)
+abbrev AllWithin : World → Type 0
+AllWithin w = NoneAbove (w .asked .who .mask) (w .trbs)
 
-module _ (w : World) (g : Agreed w) (b : Below w) where
+module _ (w : World) (g : Agreed w) (b : AllWithin w) where
   abbrev e : Endpoint
   e = w .dock .endpoint
 
-  started-below : (request : Request) (lengths : List ℕ) → admits w (starts request lengths) ≡ true
-      → AllBelow (w .asked .who .mask) (w .trbs ++ trbsOf (w .asked .settings) request lengths)
-  started-below request lengths granted =
+  started-none-above : (request : Request) (lengths : List ℕ) → admits w (starts request lengths) ≡ true
+      → NoneAbove (w .asked .who .mask) (w .trbs ++ trbsOf (w .asked .settings) request lengths)
+  started-none-above request lengths granted =
       ⊎-elim
       (λ (p : startNo e (w .dock .records) (length (w .dock .packets)) request lengths ≡ 0).
       let k = start-admitted e (w .dock .records) (w .dock .packets) request lengths p in
-      both-below (w .asked .who .mask) (w .trbs) _ b
-      (trbs-below (w .asked .who .mask) (w .asked .settings) request lengths (k .short)
+      both-none-above (w .asked .who .mask) (w .trbs) _ b
+      (trbs-none-above (w .asked .who .mask) (w .asked .settings) request lengths (k .short)
       (ap (λ (x : Identity). beyond (x .mask) (request .address) (request .length)) (sym (g .who)) ∙ k .reach)))
       (λ (p : startNo e (w .dock .records) (length (w .dock .packets)) request lengths ≡ 0 → ⊥).
       absurd (false≢true (sym (start-no w request lengths p) ∙ granted)))
       (same-or-not (startNo e (w .dock .records) (length (w .dock .packets)) request lengths) 0)
 
-  call-below : (c : Call) → Below (act w (calls c))
-  call-below (configures packet burst interval) = picked Below (admits w (configures packet burst interval)) _ _ (λ t. b) (λ t. b)
-  call-below (starts request lengths) = picked Below (admits w (starts request lengths)) _ _ (started-below request lengths) (λ t. b)
-  call-below stores = b
-  call-below (submits request lengths) = b
-  call-below (dock.hands event) = b
-  call-below (reclaims id) = b
-  call-below (cancels id) = b
-  call-below retires = b
-  call-below begins = b
-  call-below (ends worked) = b
-  call-below stops = b
-  call-below resumes = b
-  call-below points = b
+  call-none-above : (c : Call) → AllWithin (act w (calls c))
+  call-none-above (configures packet burst interval) = picked AllWithin (admits w (configures packet burst interval)) _ _ (λ t. b) (λ t. b)
+  call-none-above (starts request lengths) = picked AllWithin (admits w (starts request lengths)) _ _ (started-none-above request lengths) (λ t. b)
+  call-none-above stores = b
+  call-none-above (submits request lengths) = b
+  call-none-above (dock.hands event) = b
+  call-none-above (reclaims id) = b
+  call-none-above (cancels id) = b
+  call-none-above retires = b
+  call-none-above begins = b
+  call-none-above (ends worked) = b
+  call-none-above stops = b
+  call-none-above resumes = b
+  call-none-above points = b
 
-  act-below : (m : Move) → Below (act w m)
+  act-none-above : (m : Move) → AllWithin (act w m)
   unfolding handed stepped
-  act-below (calls c) = call-below c
-  act-below (hands event nth) = b
-  act-below steps = b
+  act-none-above (calls c) = call-none-above c
+  act-none-above (hands event nth) = b
+  act-none-above steps = b
 
-pub run-below : {w : World} → Run w → AllBelow (w .asked .who .mask) (w .trbs)
-run-below (made ring finished records packets shape who done) = tt
-run-below (andThen {w} r m allowed) = act-below w (run-agreed r) (run-below r) m
+pub run-none-above : {w : World} → Run w → NoneAbove (w .asked .who .mask) (w .trbs)
+run-none-above (made ring finished records packets shape who done) = tt
+run-none-above (andThen {w} r m allowed) = act-none-above w (run-agreed r) (run-none-above r) m
