@@ -73,33 +73,30 @@ trbsOf s request lengths = trbsFor s (request .what) (request .address) (request
 
 -- ---- the bytes that they name
 
--- The buffer that a TRB names, by address and length: none for a setup, a status, a link or a command.
-abbrev pub addressIn : Trb → ℕ
-addressIn (Normal address size td target short chain interrupt) = address
-addressIn (Setup type request value index size transfer) = 0
-addressIn (Data address size short incoming) = address
-addressIn (Status interrupt incoming) = 0
-addressIn (Isoch address size bursts target short chain interrupt block last frame asap) = address
-addressIn (Link address toggle chain) = 0
-addressIn (ResetEndpoint endpoint slot) = 0
-addressIn (StopEndpoint endpoint slot) = 0
-addressIn (SetDequeue address state endpoint slot) = 0
+-- The buffer that a TRB names.
+pub record Buffer : Type 0 where
+  pub address : ℕ
+  pub size : ℕ
 
-abbrev pub sizeIn : Trb → ℕ
-sizeIn (Normal address size td target short chain interrupt) = size
-sizeIn (Setup type request value index size transfer) = 0
-sizeIn (Data address size short incoming) = size
-sizeIn (Status interrupt incoming) = 0
-sizeIn (Isoch address size bursts target short chain interrupt block last frame asap) = size
-sizeIn (Link address toggle chain) = 0
-sizeIn (ResetEndpoint endpoint slot) = 0
-sizeIn (StopEndpoint endpoint slot) = 0
-sizeIn (SetDequeue address state endpoint slot) = 0
+-- A setup, a status, a link and a command name none.
+abbrev pub nowhere : Buffer
+nowhere = record { address = 0; size = 0 }
+
+abbrev pub bufferIn : Trb → Buffer
+bufferIn (Normal address size td target short chain interrupt) = record { address = address; size = size }
+bufferIn (Setup type request value index size transfer) = nowhere
+bufferIn (Data address size short incoming) = record { address = address; size = size }
+bufferIn (Status interrupt incoming) = nowhere
+bufferIn (Isoch address size bursts target short chain interrupt block last frame asap) = record { address = address; size = size }
+bufferIn (Link address toggle chain) = nowhere
+bufferIn (ResetEndpoint endpoint slot) = nowhere
+bufferIn (StopEndpoint endpoint slot) = nowhere
+bufferIn (SetDequeue address state endpoint slot) = nowhere
 
 -- No byte that one of them names lies above the mask.
 abbrev pub NoneAbove : ℕ → List Trb → Type 0
 NoneAbove mask [] = Unit {0}
-NoneAbove mask (t ∷ ts) = ((k : ℕ) → k < sizeIn t → addressIn t + k ≤ mask) × NoneAbove mask ts
+NoneAbove mask (t ∷ ts) = ((k : ℕ) → k < bufferIn t .size → bufferIn t .address + k ≤ mask) × NoneAbove mask ts
 
 -- Packets of these lengths, one behind the other from this address on, and their TRBs: each has its packet's length and the address modulo 2^64; where the
 -- packet has a byte, the address itself.
@@ -108,7 +105,7 @@ InTurn address [] [] = Unit {0}
 InTurn address [] (t ∷ ts) = ⊥
 InTurn address (n ∷ ns) [] = ⊥
 InTurn address (n ∷ ns) (t ∷ ts) =
-    ((sizeIn t ≡ n) × (addressIn t ≡ address % 2 ^ 64)) × ((0 < n → addressIn t ≡ address) × InTurn (address + n) ns ts)
+    ((bufferIn t .size ≡ n) × (bufferIn t .address ≡ address % 2 ^ 64)) × ((0 < n → bufferIn t .address ≡ address) × InTurn (address + n) ns ts)
 
 -- ---- what a request may say
 
