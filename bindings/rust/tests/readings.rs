@@ -183,8 +183,8 @@ fn an_empty_packet_at_the_top() {
     }
     let done = ring.reclaim(id).unwrap();
     assert_eq!((done.length, done.received), (192, true));
-    let actual: Vec<u64> = ring.packets(&done).map(|packet| packet.counted.into()).collect();
-    assert_eq!(actual, [192, 0]);
+    let counted: Vec<u32> = ring.packets(&done).map(|packet| packet.counted).collect();
+    assert_eq!(counted, [192, 0]);
     let mut ring = desk.ring_below(u64::MAX - 1, 8, 0x1_0000).unwrap();
     assert_eq!(ring.submit(&request(192, &[192, 0])), Err(Refusal::OutOfReach));
 }

@@ -1,14 +1,14 @@
 -- Document 02, "A buffer that just fits is refused": row 5 holds of a buffer exactly where a byte of it lies above the mask (`by-bytes`), under the mask 2^64-1
--- exactly where it has a byte and ends above 2^64 (`by-top`); not where its last byte is the mask's, but where it goes on behind that (`just-fits`,
--- `one-more`), and never where it has no byte (`empty-fits`). It is document 01's rule but for the buffer that just fits (`else-as-before`). Assumes nothing.
+-- exactly where it has a byte and ends above 2^64 (`by-top`); not where its last byte is the mask's (`just-fits`), and never where it has no byte
+-- (`empty-fits`). It is document 01's rule but for the buffer that just fits (`else-as-before`). Assumes nothing.
 use Prim.Native.Nat.{ℕ, _+_, _-_, _^_, _<_, _≤_}
-use mathlib.Core.Bool.{true, false, _&&_, _||_}
+use mathlib.Core.Bool.{false, _&&_, _||_}
 use mathlib.Core.Logic.{_⊎_, inr, ⊎-elim}
 use mathlib.Core.Path.{_≡_, refl}
 use native.Mathlib.Omega.{arith}
 use lib.Dec.{ltb}
 use Rattle.base.proofs.Compare.{lt-or-le}
-use Rattle.base.proofs.Decide.{Decides, by-ltb, both, either, reworded, same-test, if-so, if-not}
+use Rattle.base.proofs.Decide.{Decides, by-ltb, both, either, reworded, same-test, if-not}
 use Rattle.dock.specs.Start.{beyond}
 use Rattle.dock.proofs.RefusalTestLaws.{by-beyond}
 
@@ -27,10 +27,6 @@ module _ (mask address size : ℕ) where
   -- A buffer that just fits: its last byte is the mask's.
   pub just-fits : address + size ≡ mask + 1 → beyond mask address size ≡ false
   just-fits end = if-not (by-beyond mask address size) (λ k. omega (arith, end, k .0, k .1))
-
-  -- It goes on behind that.
-  pub one-more : 0 < size → mask + 1 < address + size → beyond mask address size ≡ true
-  one-more some over = if-so (by-beyond mask address size) (some, omega (arith, some, over))
 
   -- Every other buffer is refused as document 01 had it: "length above 0 and (address > mask or address + length > mask), the sum exact".
   pub else-as-before : (address + size ≡ mask + 1 → ⊥) → beyond mask address size ≡ (ltb 0 size && (ltb mask address || ltb mask (address + size)))

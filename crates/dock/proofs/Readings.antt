@@ -57,8 +57,11 @@ dockWith : ℕ → ℕ → State
 dockWith mask slots = madeOf (make (ones (ringSize slots)) (ones (ringSize slots)) (ones recordsSize) (ones packetsSize) (shapeOf slots) (whoWith mask))
 
 -- the one with mask ffffffff,
+abbrev low : ℕ
+low = 4294967295
+
 abbrev dockOf : ℕ → State
-dockOf slots = dockWith 4294967295 slots
+dockOf slots = dockWith low slots
 
 -- and the state after calls, in order.
 ran : State → List Call → State
@@ -226,11 +229,11 @@ allTrue (b ∷ bs) = b && allTrue bs
 -- The making is done,
 reached : Reached (dockOf 4096)
 unfolding dockWith make makeNo makeTests sized limitsHold
-reached = made (making (ones (ringSize 4096)) (ones (ringSize 4096)) (ones recordsSize) (ones packetsSize) (shapeOf 4096) (whoWith 4294967295) refl)
+reached = made (making (ones (ringSize 4096)) (ones (ringSize 4096)) (ones recordsSize) (ones packetsSize) (shapeOf 4096) (whoWith low) refl)
 
 -- and leaves the ledger of an empty dock.
 empty : Ledger
-empty = record { slots = 4096; mask = 4294967295; outstanding = 0; occupancy = masks.none; busy = false; reset = false }
+empty = record { slots = 4096; mask = low; outstanding = 0; occupancy = masks.none; busy = false; reset = false }
 
 ledger-made : ledgerOf (dockOf 4096 .endpoint) ≡ empty
 unfolding empty dockWith make makeNo makeTests sized limitsHold
