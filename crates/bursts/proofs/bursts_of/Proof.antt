@@ -1,19 +1,22 @@
--- `bursts::bursts_of` meets its contract: the packets, and the two counts of them. Assumes nothing.
+-- `bursts::bursts_of` meets its contract: packets that fit in one burst have no other before it, all others one division for both counts. Assumes nothing.
+use mathlib.Core.Path.{sym, _∙_}
 use native.Mathlib.Omega.{arith}
 use borrow.Author.Needs.{needs}
-use Rattle.bursts.specs.Bursts.{burstsOf}
+use Rattle.bursts.proofs.BurstLaws.{bursts-are, one-burst}
 use Rattle.bursts.proofs.bursts_of.Statement.{statement}
 use Rattle.bursts.proofs.bursts_of.Tie as tie
 
-less-one-requires : tie.Need-less-one-requires
-less-one-requires c κs = c .up .ensures .1 (omega arith)
-
 returns : tie.Need-returns
-unfolding burstsOf
 returns c =
-    let at-up = c .before .before .before in
-    let at-packets = at-up .before in
-    simp (c .before .before .less-one .ensures, c .less-one2 .ensures, at-up .up .ensures .0, c .before .last-of .ensures .0, at-packets .packets .ensures .0)
+    let a = c .before .before .before .args in
+    let all = c .before .before .packets .ensures .0 in
+    simp (c .limited .ensures, all) (sym (one-burst (a .length) (a .packet) (a .burst) (omega arith)))
+
+returns-2 : tie.Need-returns-2
+returns-2 c =
+    let a = c .before .before .before .args in
+    let all = c .before .before .packets .ensures .0 in
+    simp (c .limited2 .ensures, all) (sym (bursts-are (a .length) (a .packet) (a .burst)))
 
 pub bursts-of-spec : {M : Type 1} → statement M
 bursts-of-spec =
@@ -21,8 +24,12 @@ bursts-of-spec =
     (tie.spec
     (λ c κs. search needs)
     (λ c. search needs)
+    (λ c. search needs)
     (λ c κs. search needs)
-    less-one-requires
+    returns
+    (λ c. search needs)
+    (λ c. search needs)
+    (λ c. search needs)
+    (λ c. search needs)
     (λ c κs. search needs)
-    (λ c κs. search needs)
-    returns)
+    returns-2)
