@@ -1,17 +1,15 @@
--- Document 01's sums by other divisions: less one, the blocks of d that hold n are the quotient of n - 1, and what the last of them holds is its rest. So the
--- burst counts follow from one division for the packets and one for both counts, and where there is one packet, or one burst, from less.
--- Assumes nothing.
-use Prim.Native.Nat.{ℕ, _+_, _-_, _*_, _/_, _%_, _<_, _≤_, min, max}
+-- The paper's sums with fewer divisions. ceil(n / d) - 1 is the quotient of n - 1 by d, and (n mod d or d if 0) - 1 its rest: so one division gives P, and one
+-- both counts. Packets that fit in one burst, and a length that is no longer than the max packet size, need less. Assumes nothing.
+use Prim.Native.Nat.{ℕ, _+_, _-_, _*_, _/_, _%_, _<_, _≤_, min}
 use mathlib.Core.Logic.{⊎-elim}
-use mathlib.Core.Path.{_≡_, refl, sym, _∙_}
+use mathlib.Core.Path.{_≡_, refl, _∙_}
 use native.Mathlib.Nat.{div-add-mod', eq-zero-or-pos, mod-lt, add-mul, one-mul, zero-mul, zero-mod, zero-div, div-eq-of-lt-le, div-eq-of-lt, mod-eq-of-lt}
 use native.Mathlib.Omega.{arith}
 use borrow.Author.Tests.{eq-eqb, ne-eqb}
 use Rattle.bursts.specs.Bursts.{ceiling, packetsOf, lastBurst, burstsOf}
-use Rattle.bursts.specs.declared.Bursts.{Bursts}
 
 module _ (n d : ℕ) (sized : 0 < d) where
-  -- The last block holds something, d at most, and n is what all others hold and it.
+  -- n is all blocks but the last, which hold d each, and the last, which holds something, d at most.
   pub blocks-hold : (ceiling n d * d + lastBurst n d ≡ n + d) × (0 < lastBurst n d) × (lastBurst n d ≤ d)
   blocks-hold =
       ⊎-elim
@@ -43,14 +41,14 @@ module _ (n d : ℕ) (sized : 0 < d) where
     one-fewer : ceiling n d * d ≡ (ceiling n d - 1) * d + d
     one-fewer = let parts = rw again at (add-mul (ceiling n d - 1) 1 d) in omega (arith, one-mul d)
 
-    -- ceil(n / d) - 1
+    -- ceil(n / d) - 1, by one division.
     pub blocks-before : (n - 1) / d ≡ ceiling n d - 1
     blocks-before =
         let least = ceiling-least in
         let fewer = one-fewer in
         div-eq-of-lt-le d (omega arith) (rw again (omega arith))
 
-    -- (n mod d or d if 0) - 1
+    -- (n mod d or d if 0) - 1, by the same division.
     pub rest-before : (n - 1) % d ≡ lastBurst n d - 1
     rest-before =
         let held = blocks-hold in
@@ -58,7 +56,7 @@ module _ (n d : ℕ) (sized : 0 < d) where
         let parts = rw blocks-before at (div-add-mod' (n - 1) d) in
         omega arith
 
--- P of a length, by one division.
+-- P, by one division.
 pub packets-are : (length packet : ℕ) → 0 < packet → 0 < length → packetsOf length packet ≡ (length - 1) / packet + 1
 unfolding packetsOf
 packets-are length packet sized some =
@@ -96,7 +94,7 @@ packets-some length packet =
     (eq-zero-or-pos packet)
 
 module _ (length packet burst : ℕ) where
-  -- Both counts, by one division of the packets before the last.
+  -- Both counts, by one division of P - 1.
   pub bursts-are : burstsOf length packet burst
       ≡ record {
         count = min 31 ((packetsOf length packet - 1) / (burst + 1));
@@ -108,13 +106,13 @@ module _ (length packet burst : ℕ) where
       let each : 0 < burst + 1 = omega arith in
       rw (blocks-before (packetsOf length packet) (burst + 1) each some, rest-before (packetsOf length packet) (burst + 1) each some) refl
 
-  -- Packets that fit in one burst, a full one too: none before the last burst.
+  -- Of packets that fit in one burst, and may fill it, by none.
   pub one-burst : packetsOf length packet ≤ burst + 1 → burstsOf length packet burst ≡ record { count = 0; last = min 15 (packetsOf length packet - 1) }
   one-burst fit =
       let some = packets-some length packet in
       let below : packetsOf length packet - 1 < burst + 1 = omega arith in
       rw (bursts-are, div-eq-of-lt below, mod-eq-of-lt below) refl
 
-  -- A length that is no longer than the max packet size.
+  -- Of a length that is no longer than the max packet size both are 0.
   pub no-counts : length ≤ packet → burstsOf length packet burst ≡ record { count = 0; last = 0 }
   no-counts short = let one = one-packet length packet short in one-burst (omega arith) ∙ rw one refl

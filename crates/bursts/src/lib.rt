@@ -1,5 +1,5 @@
-// The burst counts of an isochronous packet: document 01, "Words of a TRB", Burst. None is divided that is no longer than the max packet size, one that is
-// sent in one burst is divided once, any other twice.
+// The burst counts of an isochronous packet: document 01, "Words of a TRB", Burst. Document 02, E3: "with fewer of them, where possible with none for a packet
+// no longer than the max packet size": that one is not divided, one that is sent in a single burst is divided once, any other twice.
 ghost use mathlib.Core.Path.{_≡_};
 ghost use Prim.Native.Nat.{_<_, min};
 ghost use Rattle.bursts.specs.Bursts.{packetsOf, burstsOf};
@@ -33,7 +33,7 @@ fn at_most(n: u64, most: u32) -> u32
     n as u32
 }
 
-// The bursts before the last one and the packets of the last one before its last, as far as a TRB can say them.
+// The counts as a TRB has them, of the bursts before the last one and of the last one's packets but one.
 fn limited(count: u64, last: u64) -> Bursts
     ensures { λ r. ⌜ r ≡ record { count = min 31 count; last = min 15 last } ⌝ }
 {
