@@ -1,5 +1,5 @@
 //! Our side: the exported calls of `dock_c`, linked as a static library.
-use crate::{BASE, BUFFER, DCI, PACKET, SLOT, Side};
+use crate::{BASE, BUFFER, DCI, Load, SLOT, Side};
 
 unsafe extern "C" {
     fn thn_make(
@@ -80,7 +80,7 @@ pub struct Ours {
 }
 
 impl Ours {
-    pub fn new(slots: usize, packets: usize) -> Self {
+    pub fn new(slots: usize, load: &Load) -> Self {
         let mut side = Self {
             state: [0; STATE_WORDS],
             answer: [0; ANSWER_WORDS],
@@ -88,8 +88,8 @@ impl Ours {
             finished: vec![0; 4 * slots],
             records: vec![0; 64 * 12],
             packets: vec![0; 64 * 64],
-            request: [3, 1, 0, 0, 0, 0, BUFFER, (packets * PACKET) as u64],
-            lengths: vec![PACKET as u64; packets],
+            request: [3, 1, 0, 0, 0, 0, BUFFER, load.bytes() as u64],
+            lengths: load.lengths.iter().map(|&length| length as u64).collect(),
         };
         // SAFETY: each slice is passed as its pointer and its length.
         let made = unsafe {
@@ -113,7 +113,7 @@ impl Ours {
         };
         assert_eq!(made, 0);
         // SAFETY: as above.
-        let set = unsafe { thn_configure(side.state.as_mut_ptr(), STATE_WORDS, PACKET as u16, 0, 1) };
+        let set = unsafe { thn_configure(side.state.as_mut_ptr(), STATE_WORDS, load.packet, load.burst, 1) };
         assert_eq!(set, 0);
         side
     }

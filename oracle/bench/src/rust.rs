@@ -26,7 +26,7 @@ use usb_if::{
 };
 use xhci::ring::trb::event;
 
-use crate::{BASE, BUFFER, DCI, PACKET, SLOT, Side};
+use crate::{BASE, BUFFER, DCI, Load, SLOT, Side};
 
 pub struct Rust {
     endpoint: Endpoint,
@@ -38,7 +38,7 @@ pub struct Rust {
 }
 
 impl Rust {
-    pub fn new(slots: usize, packets: usize) -> Self {
+    pub fn new(slots: usize, load: &Load) -> Self {
         let reg = Arc::new(SpinRwLock::new(XhciRegisters::default()));
         let kernel = Kernel::new(slots, BASE, u64::MAX, false);
         kernel.set_buffer_addr(BUFFER);
@@ -50,14 +50,14 @@ impl Rust {
         .expect("a command ring");
         let bell = Arc::new(SpinLock::new(SlotBell::default()));
         let mut endpoint = Endpoint::new(SlotId::from(SLOT), Dci::from(DCI), &kernel, bell, commands).expect("an endpoint");
-        endpoint.configure_periodic(PACKET, 0, 1);
+        endpoint.configure_periodic(usize::from(load.packet), usize::from(load.burst), 1);
         let handler = TransferResultHandler::new(reg);
         handler.register_queue(SLOT, DCI, endpoint.ring()).expect("an empty route");
         Self {
             endpoint,
             handler,
-            bytes: vec![0; packets * PACKET],
-            lengths: vec![PACKET; packets],
+            bytes: vec![0; load.bytes()],
+            lengths: load.lengths.clone(),
             request: None,
         }
     }
