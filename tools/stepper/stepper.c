@@ -1,8 +1,9 @@
 /* stepper.c: single-steps thn_submit of the shipped archive, and holds the order in which the words of the ring and of the finished table change against
  * the same submission store by store.
  *
- *     stepper           every case below, on thn_submit
- *     stepper planted   submissions with a slip (planted.c): each must be found
+ *     stepper             every case below, on thn_submit
+ *     stepper planted     submissions with a slip (planted.c): each must be found
+ *     stepper divisions   counts the divisions of ISO submissions instead, whole and store by store
  *
  * The contract of a whole submission says which words stand there at its end, not in which order they came. That order is run here: a child process
  * makes the call, its tables lie in memory that both processes share, and behind every instruction of the child (ptrace, PTRACE_SINGLESTEP) the tables
@@ -26,17 +27,20 @@
 #include "stepper.h"
 #include <sched.h>
 #include <signal.h>
+#include <stddef.h>
 #include <stdio.h>
 #include <stdlib.h>
 #include <string.h>
 #include <sys/mman.h>
 #include <sys/ptrace.h>
+#include <sys/user.h>
 #include <sys/wait.h>
 #include <unistd.h>
 
 #define BASE 0x10000u /* document 01's W10 has it */
 #define MARK 0x6d61726bu
 #define SHIPPED (-1)
+#define STORES (-2)
 #define STATE(d) (d)->state, THN_STATE_WORDS
 #define ANSWER(d) (d)->answer, THN_ANSWER_WORDS
 #define SLOTS(d) (d)->ring, 4 * (d)->slots, (d)->finished, 4 * (d)->slots
@@ -46,7 +50,7 @@
 static struct shared {
     struct dock d;
     struct request r;
-    int slip; /* or SHIPPED: thn_submit */
+    int slip; /* or SHIPPED: thn_submit; STORES: thn_start and every thn_store */
     volatile int over;
     uint32_t no;
 } *shared;
@@ -140,15 +144,20 @@ static void serve(void) {
         _exit(9);
     for (;;) {
         raise(SIGSTOP); /* the tables are laid out */
-        if (shared->slip != SHIPPED)
+        if (shared->slip >= 0)
             plan(shared->slip, d, &shared->r);
         raise(SIGSTOP); /* from here on each instruction is watched */
-        if (shared->slip != SHIPPED)
+        if (shared->slip >= 0)
             act(d);
-        else
+        else if (shared->slip == SHIPPED)
             shared->no = thn_submit(STATE(d), ANSWER(d), SLOTS(d), REQUESTS(d), ASKED(&shared->r));
+        else {
+            shared->no = thn_start(STATE(d), REQUESTS(d), ASKED(&shared->r));
+            while (shared->no == 0 && d->answer[0] != 3)
+                shared->no = thn_store(STATE(d), ANSWER(d), SLOTS(d), REQUESTS(d));
+        }
         shared->over = 1;
-        if (shared->slip != SHIPPED)
+        if (shared->slip >= 0)
             settle(d);
     }
 }
@@ -512,7 +521,93 @@ static int planted(void) {
     return missed != 0;
 }
 
+/* ---- the divisions */
+
+/* The instruction that is next: prefixes, then f6 or f7 with 6 (div) or 7 (idiv) in the middle bits of the byte behind it. */
+static int divides(void) {
+    long at = ptrace(PTRACE_PEEKUSER, child, offsetof(struct user, regs.rip), 0), words[2];
+    unsigned char code[sizeof words];
+    size_t i = 0;
+    for (size_t k = 0; k < 2; k++)
+        words[k] = ptrace(PTRACE_PEEKTEXT, child, at + 8 * (long)k, 0);
+    memcpy(code, words, sizeof code);
+    while (i < 8 && code[i] != 0 && strchr("\x66\x67\xf2\xf3", code[i]) != NULL)
+        i++;
+    i += (code[i] & 0xf0) == 0x40;
+    return (code[i] & 0xfe) == 0xf6 && (code[i + 1] >> 3 & 7) >= 6;
+}
+
+/* How a length is sent, by document 01's sums: P packets, B to a burst. */
+enum way { NO_SIZE, ONE_PACKET, ONE_BURST, MORE, WAYS };
+static const struct {
+    const char *name;
+    long divisions;
+} ways[WAYS] = {{"max packet size 0", 0}, {"length at most max packet", 0}, {"P at most B", 1}, {"P above B", 2}};
+
+static enum way way(uint64_t length, uint64_t packet, uint64_t burst) {
+    if (packet == 0)
+        return NO_SIZE;
+    return length <= packet ? ONE_PACKET : (length + packet - 1) / packet <= burst + 1 ? ONE_BURST : MORE;
+}
+
+/* A request of three packets: two of a length and an empty one between them, which needs no division, or three alike. Answers how many divisions it made. */
+static long divided(uint64_t packet, uint64_t burst, uint64_t length, int same, int how) {
+    struct dock *d = &shared->d;
+    long count = 0;
+    walk(d, 8, 0, 1);
+    memset(d->answer, 0, sizeof d->answer);
+    if (thn_configure(STATE(d), (uint16_t)packet, (uint8_t)burst, 1) != 0)
+        die("configure was refused");
+    shared->r = (struct request){{3, 1, 0, 0, 0, 0, 0x20000, 3 * 65536}, {length, same ? length : 0, length}, 3};
+    shared->slip = how;
+    shared->over = 0;
+    go(PTRACE_CONT, SIGSTOP);
+    for (; !shared->over; instructions++) {
+        count += divides();
+        go(PTRACE_SINGLESTEP, SIGTRAP);
+    }
+    if (shared->no != 0)
+        die("a request of three packets was refused");
+    go(PTRACE_CONT, SIGSTOP);
+    return count;
+}
+
+/* Lengths at the ends of a packet, a burst, two, and of what both counts can say, each with the next one. */
+static int divisions(void) {
+    static const uint64_t packets[] = {0, 1, 64, 192, 1024, 65535}, bursts[] = {0, 2, 15, 255};
+    struct {
+        long cases, whole, stores, alike;
+    } found[WAYS] = {{0, 0, 0, 0}};
+    long lengths = 0, otherwise = 0;
+    for (size_t p = 0; p < sizeof packets / sizeof packets[0]; p++)
+        for (size_t b = 0; b < sizeof bursts / sizeof bursts[0]; b++) {
+            const uint64_t one = packets[p], each = bursts[b] + 1, ends[] = {0, one, one * each, 2 * one * each, 16 * one, 32 * one * each, 65535};
+            static char tried[65537];
+            memset(tried, 0, sizeof tried);
+            for (size_t e = 0; e < 2 * sizeof ends / sizeof ends[0]; e++) {
+                const uint64_t length = ends[e / 2] + e % 2;
+                if (length > 65536 || tried[length]++)
+                    continue;
+                const enum way w = way(length, one, bursts[b]);
+                const long due = ways[w].divisions, whole = divided(one, bursts[b], length, 0, SHIPPED),
+                           stores = divided(one, bursts[b], length, 0, STORES), alike = divided(one, bursts[b], length, 1, SHIPPED);
+                if ((whole != 2 * due || stores != 2 * due || alike != due) && otherwise++ < 20)
+                    printf("OTHERWISE: length %lu, max packet %lu, burst %lu: two packets %ld whole, %ld store by store; three alike %ld\n",
+                           (unsigned long)length, (unsigned long)one, (unsigned long)bursts[b], whole, stores, alike);
+                found[w].cases++, found[w].whole += whole, found[w].stores += stores, found[w].alike += alike;
+                lengths++;
+            }
+        }
+    printf("P packets of the max packet size, B to a burst; a request of two packets of one length, an empty one between them, and one of three alike\n");
+    printf("%-26s %7s %8s %14s %15s %22s\n", "divisions", "lengths", "a packet", "of two, whole", "store by store", "of three alike, whole");
+    for (int w = 0; w < WAYS; w++)
+        printf("%-26s %7ld %8ld %14ld %15ld %22ld\n", ways[w].name, found[w].cases, ways[w].divisions, found[w].whole, found[w].stores, found[w].alike);
+    printf("%ld lengths, %ld otherwise\n\n", lengths, otherwise);
+    return otherwise != 0;
+}
+
 int main(int argc, char **argv) {
+    const char *what = argc > 1 ? argv[1] : "";
     cpu_set_t one; /* the two processes go by turns, faster on one core than on two */
     CPU_ZERO(&one);
     CPU_SET(sched_getcpu(), &one);
@@ -525,7 +620,7 @@ int main(int argc, char **argv) {
     stopped_by(SIGSTOP);
     if (ptrace(PTRACE_SETOPTIONS, child, 0, PTRACE_O_EXITKILL) != 0)
         die("this machine does not allow ptrace");
-    int bad = argc > 1 && strcmp(argv[1], "planted") == 0 ? planted() : archive();
+    int bad = strcmp(what, "planted") == 0 ? planted() : strcmp(what, "divisions") == 0 ? divisions() : archive();
     fflush(stdout);
     fprintf(stderr, "stepper: %ld instructions watched\n", instructions);
     return bad;
