@@ -4,7 +4,7 @@ use mathlib.Core.Bool.{Bool, true, false, ◌||◌, and-eq-true_iff}
 use mathlib.Core.List.{List}
 use mathlib.Core.Path.{◌≡◌, refl, sym, subst}
 use native.Mathlib.Omega.{arith}
-use borrow.Author.Tests.{ltb-false, eqb_true, not-false}
+use borrow.Author.Tests.{ltb-false, eqb-true, not-false}
 use lib.Dec.{eqb, ltb}
 use lib.ListN.{length}
 use Rattle.base.proofs.Chosen.{quiet}
@@ -54,7 +54,7 @@ admitted e records packets request lengths t =
     let whole = fit_with e records sizes.0 in
     let sound = fit e whole.fit in (
       whole.size,
-      eqb_true _ _ sizes.1,
+      eqb-true _ _ sizes.1,
       sound.next,
       room e.shape.slots e.account.outstanding (required request (length lengths)) sound.limits.slots_most (quiet ts 3 refl t (omega arith)),
       few request.what request.length lengths (quiet ts 4 refl t (omega arith)),

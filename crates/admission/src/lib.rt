@@ -1,4 +1,6 @@
 // The refusals of a submission's start, in order. Every test takes any input: no sum is made before its parts are tested.
+#![tactic(auto)]
+
 ghost use Rattle.std.specs.Prelude.{◌≡◌, not, ◌&&◌, ◌||◌, eqb, ltb, length};
 ghost use Rattle.mask.specs.Occupancy.{lowest};
 ghost use Rattle.sizes.specs.Sizes.{capacity, packet_count, packets_size};

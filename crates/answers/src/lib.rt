@@ -1,4 +1,6 @@
 // The lines that answers are written as, each put on a page.
+#![tactic(auto)]
+
 ghost use Rattle.std.specs.Prelude.{◌≡◌, ◌≤◌, ◌<◌, min};
 ghost use Rattle.page.specs.Page.{put_all};
 ghost use Rattle.sizes.specs.Sizes.{packet_count};

@@ -1,4 +1,6 @@
 // What every crate of the dock cites: definitions (specs/), laws about them (proofs/), and the one function that goes with them.
+#![tactic(auto)]
+
 ghost use Rattle.std.specs.Prelude.{◌≡◌};
 ghost use Rattle.base.specs.First.{either};
 

@@ -45,14 +45,14 @@ pub fn forge64(table: &mut [u64], index: u64, word: u64) -> bool
 }
 
 // Where the controller stands after its steps, and how many bytes stand on the page.
-#[derive(Drop)]
+#[derive(Clone, Copy)]
 pub struct Walked {
     pub c: Consumer,
     pub at: usize,
 }
 
 // One step: whether it did anything, where the controller then stands, and how many bytes stand on the page.
-#[derive(Drop)]
+#[derive(Clone, Copy)]
 pub struct Strode {
     pub moved: bool,
     pub c: Consumer,

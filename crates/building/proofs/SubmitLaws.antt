@@ -4,7 +4,7 @@ use mathlib.Core.Bool.{Bool, true, false, ◌&&◌, and-eq-true_iff}
 use mathlib.Core.List.{List}
 use mathlib.Core.Path.{◌≡◌, sym, ap, subst, ◌∙◌}
 use native.Mathlib.Omega.{arith}
-use borrow.Author.Tests.{eqb_true}
+use borrow.Author.Tests.{eqb-true}
 use lib.Dec.{eqb}
 use lib.ListN.{length}
 use Rattle.sizes.specs.Sizes.{ring_size, packet_count, isoch}
@@ -67,10 +67,10 @@ module _ (e : Endpoint) (ring finished records packets : List ℕ) (request : Re
     both = (and-eq-true_iff (eqb (length ring) (ring_size e.shape.slots)) (eqb (length finished) (ring_size e.shape.slots))).0 (fits z).0
 
     ring_size_lem : length ring ≡ ring_size e.shape.slots
-    ring_size_lem = eqb_true _ _ both.0
+    ring_size_lem = eqb-true _ _ both.0
 
     finished_size : length finished ≡ ring_size e.shape.slots
-    finished_size = eqb_true _ _ both.1
+    finished_size = eqb-true _ _ both.1
 
     pub takes : Admitted e (length records) (length packets) request (length lengths)
     takes = admitted e records (length packets) request lengths passed

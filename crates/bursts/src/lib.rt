@@ -1,10 +1,12 @@
 // The burst counts of an isochronous packet: document 01, "Words of a TRB", Burst. Document 02, E3: "with fewer of them, where possible with none for a packet
 // no longer than the max packet size": that one is not divided, one that is sent in a single burst is divided once, any other twice.
+#![tactic(auto)]
+
 ghost use Rattle.std.specs.Prelude.{◌≡◌, ◌<◌, min};
 ghost use Rattle.bursts.specs.Bursts.{packets_of, bursts_of};
 
 // The burst count and the last-burst count of an Isoch TRB.
-#[derive(Drop)]
+#[derive(Clone, Copy)]
 pub struct Bursts {
     pub count: u32,
     pub last: u32,

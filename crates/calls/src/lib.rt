@@ -1,4 +1,6 @@
 // The calls that a line makes, each with what it writes.
+#![tactic(auto)]
+
 ghost use Rattle.std.specs.Prelude.{◌≡◌};
 ghost use Rattle.dock.specs.Make.{make};
 ghost use Rattle.values.specs.Values.{shape_of, identity_of};
@@ -9,7 +11,7 @@ use dock::{Changed, Endpoint, Outcome, Request, Stored};
 use values::{Next, Turn};
 
 // What a store leaves, and whether more are to come.
-#[derive(Drop)]
+#[derive(Clone, Copy)]
 pub struct StoreTurn {
     pub e: Endpoint,
     pub at: usize,

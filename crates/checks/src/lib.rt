@@ -1,6 +1,8 @@
 // The tests that the calls of the dock share: the endpoint and its records fit (row 1 of "When the dock says no"), and no stores are under way.
 //
 // Every function here takes any input, but those that go with `strays`: it asks that the records have their size, which `fits_with` tests.
+#![tactic(auto)]
+
 ghost use Rattle.std.specs.Prelude.{◌≡◌, not, ◌&&◌, ◌≤◌, ◌<◌, leb, length};
 ghost use Rattle.sizes.specs.Sizes.{records_size, packet_count};
 ghost use Rattle.dock.specs.Trbs.{trb_count, deferred, chained};
@@ -66,7 +68,7 @@ pub fn is_chained(e: Endpoint, v: Record) -> bool
 }
 
 // What the next store of a submission is.
-#[derive(Drop)]
+#[derive(Clone, Copy)]
 pub enum Next {
     Link,
     Trb,

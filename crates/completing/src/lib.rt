@@ -1,4 +1,6 @@
 // A completion: the record is freed, and the answer is the first of 7, 9 and 8 that holds, or the length.
+#![tactic(auto)]
+
 ghost use Rattle.std.specs.Prelude.{◌≡◌, not, ◌&&◌, ◌||◌, ◌-◌, ◌<◌, ltb, eqb};
 ghost use Rattle.base.specs.First.{first};
 ghost use Rattle.sizes.specs.Sizes.{record_count};

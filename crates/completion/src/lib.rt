@@ -3,6 +3,8 @@
 // An event goes to the place of the finished table that is its slot's, and stays there. A cancel marks its record; the completion then answers 7.
 //
 // Each call takes any endpoint, tables and numbers: it tests what it needs, and what it answers and leaves is its definition in `dock`.
+#![tactic(auto)]
+
 ghost use Rattle.std.specs.Prelude.{◌≡◌, ◌*◌, length};
 ghost use Rattle.sizes.specs.Sizes.{records_size};
 ghost use Rattle.ids.specs.Lookup.{find_in};

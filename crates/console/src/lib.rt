@@ -2,4 +2,6 @@
 //
 // The tables are lent, the endpoint and the controller are values, and what is to be written is put on a page (crate `page`). `serve` does what a
 // line says, by the calls of `calls` and, for what only shows or forges, by `bench`.
+#![tactic(auto)]
+
 pub mod serve;

@@ -5,7 +5,7 @@ use mathlib.Core.Bool.{Bool, true, false}
 use mathlib.Core.List.{List}
 use mathlib.Core.Path.{◌≡◌, refl, ap}
 use native.Mathlib.Omega.{arith}
-use borrow.Author.Tests.{eqb_true}
+use borrow.Author.Tests.{eqb-true}
 use lib.Dec.{eqb}
 use Rattle.base.specs.First.{pick}
 use Rattle.trb.specs.Cycle.{owned, past, type_of, toggles, points_to}
@@ -35,7 +35,7 @@ module _ (base : ℕ) (w : Words) (c : Consumer) (home : type_of w ≡ 6 → Hom
   moved : (link : Bool) → eqb (type_of w) 6 ≡ link → owned w (pointer c) ≡ true → pointer (step_at w c).after ≡ past base w (pointer c)
   unfolding does past
   moved true is own =
-      let h = home (eqb_true (type_of w) 6 is) in
+      let h = home (eqb-true (type_of w) 6 is) in
       let none : (base - base) / 16 ≡ 0 = omega arith in
       rw (own, is, h.leads, h.turns, none)
   moved false is own = rw (own, is)

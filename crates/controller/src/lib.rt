@@ -2,6 +2,8 @@
 // Else consume, move one on."
 //
 // Its rule is proved to be the standard's consumer rule (`trb`, specs/Cycle) wherever the links lead to slot 0 and toggle, as the ring's own does.
+#![tactic(auto)]
+
 ghost use Rattle.std.specs.Prelude.{◌≡◌, ◌+◌, ◌*◌, ◌≤◌, ◌<◌, eqb, length, get_or};
 ghost use Rattle.std.specs.Bool.{beq};
 ghost use Rattle.trb.specs.Cycle.{owned, type_of};
@@ -11,14 +13,14 @@ ghost use Rattle.controller.specs.Rule.{pointer, origin, does, step_at, step};
 use trb::Words;
 
 // Where the controller stands: its slot, and its own cycle bit.
-#[derive(Drop)]
+#[derive(Clone, Copy)]
 pub struct Consumer {
     pub slot: usize,
     pub state: bool,
 }
 
 // What a step did: nothing; it went by a link; or it consumed the TRB of its slot, whose words these are.
-#[derive(Drop)]
+#[derive(Clone, Copy)]
 pub enum Step {
     Nothing,
     Linked,
@@ -26,7 +28,7 @@ pub enum Step {
 }
 
 // A step, and where the controller stands after it.
-#[derive(Drop)]
+#[derive(Clone, Copy)]
 pub struct Stepped {
     pub step: Step,
     pub after: Consumer,

@@ -1,4 +1,6 @@
 // A digit of a number, and whether a number with one digit more fits.
+#![tactic(auto)]
+
 ghost use Rattle.std.specs.Prelude.{◌≡◌, ◌≤◌};
 ghost use Rattle.digits.specs.Digits.{digit_of, fits};
 

@@ -7,7 +7,7 @@ use mathlib.Core.Logic.{◌⊎◌, inl, inr, ⊎_elim}
 use mathlib.Core.Path.{◌≡◌, refl, sym, ap, ◌∙◌}
 use native.Mathlib.Nat.{eq-or-lt_of_le}
 use native.Mathlib.Omega.{arith}
-use borrow.Author.Tests.{eqb_true, eqb_false, eq-eqb, ne_eqb, ltb-true, ltb-false, lt-ltb, le-ltb, lt-leb, not-false}
+use borrow.Author.Tests.{eqb-true, eqb-false, eq-eqb, ne_eqb, ltb-true, ltb-false, lt-ltb, le-ltb, lt-leb, not-false}
 use lib.Dec.{eqb, ltb, leb}
 use lib.ListN.{length}
 use lib.Seq.{get_or-set_other}
@@ -178,10 +178,10 @@ module _ (e : Endpoint) (v : Record) where
   next_tells : Tells (next_of e v)
   unfolding next_of
   next_tells =
-      picked Tells (eqb (e.at.place + 1) e.shape.slots) _ _ (λ t. eqb_true _ _ t)
-      (λ t. picked Tells (ltb e.work.stored (trb_count v)) _ _ (λ u. (eqb_false _ _ t, ltb-true _ _ u))
+      picked Tells (eqb (e.at.place + 1) e.shape.slots) _ _ (λ t. eqb-true _ _ t)
+      (λ t. picked Tells (ltb e.work.stored (trb_count v)) _ _ (λ u. (eqb-false _ _ t, ltb-true _ _ u))
       (λ u. picked Tells (deferred v && eqb e.work.stored (trb_count v)) _ _
-      (λ w. (eqb_false _ _ t, eqb_true e.work.stored (trb_count v) (right_true (deferred v) (eqb e.work.stored (trb_count v)) w)))
+      (λ w. (eqb-false _ _ t, eqb-true e.work.stored (trb_count v) (right_true (deferred v) (eqb e.work.stored (trb_count v)) w)))
       (λ w. tt)))
 
 -- ---- a store
@@ -273,7 +273,7 @@ make_placed ring finished records packets shape who =
     (eqb (make_no (length ring) (length finished) (length records) (length packets) shape who) 0)
     _ _
     (λ t d. fresh_placed shape who (zeros ring) (zeros finished) (zeros records) (zeros packets)
-    (slots_some _ (fresh_sound ring finished records packets shape who (eqb_true _ _ t))))
+    (slots_some _ (fresh_sound ring finished records packets shape who (eqb-true _ _ t))))
     (λ t d. absurd (not_done _ d))
 
 made_placed : (s : State) → Made s → Placed s
@@ -419,7 +419,7 @@ unfolding start
 start_placed s request lengths h k =
     picked (λ (a : Changed × List ℕ × List ℕ). Placed (state_of a.0.endpoint s.ring s.finished a.1 a.2))
     (eqb (start_no s.endpoint s.records (length s.packets) request lengths) 0) _ _
-    (λ t. started_placed s request lengths h k (eqb_true _ _ t))
+    (λ t. started_placed s request lengths h k (eqb-true _ _ t))
     (λ t. k)
 
 -- A store.
@@ -432,7 +432,7 @@ store_placed s h k =
     picked (λ (a : StoredOne × List ℕ × List ℕ). Placed (state_of a.0.endpoint a.1 a.2 s.records s.packets))
     (eqb (store_no e (length s.ring) (length s.finished) s.records (length s.packets)) 0) _ _
     (λ t.
-    let b = store_busy s h (eqb_true _ _ t) in
+    let b = store_busy s h (eqb-true _ _ t) in
     let f = strays_facts e s.records k.straight b in
     let after = stepped n e v s.packets in
     let step = stepping e v s.packets k.placing b f.most (slots_some s h) f.first n f.some (next_tells e v) in
@@ -481,7 +481,7 @@ unfolding cancel cancel_no cancel_tests
 cancel_placed s id k =
     let e = s.endpoint in
     picked (λ (a : Outcome × List ℕ). Placed (state_of e s.ring s.finished a.1 s.packets)) (eqb (cancel_no e s.records id) 0) _ _
-    (λ t. idle_placed s e _ s.packets k k.placing (quiet (cancel_tests e s.records id) 1 refl (eqb_true _ _ t) (omega arith)) refl (omega arith)
+    (λ t. idle_placed s e _ s.packets k k.placing (quiet (cancel_tests e s.records id) 1 refl (eqb-true _ _ t) (omega arith)) refl (omega arith)
     (marked_alike s.records (find_in s.records e.account.occupancy id)) (marked_measured s.records (find_in s.records e.account.occupancy id)) (λ r l f. f))
     (λ t. k)
 
@@ -492,7 +492,7 @@ retire_placed s h k =
     picked (λ (a : Changed × List ℕ). Placed (state_of a.0.endpoint s.ring s.finished a.1 s.packets)) (eqb (record_no e s.records) 0) _ _
     (λ t. record {
       placing = k.placing;
-      straight = strays_none _ _ (λ b. absurd (never_both b (quiet (record_tests e s.records) 1 refl (eqb_true _ _ t) (omega arith))));
+      straight = strays_none _ _ (λ b. absurd (never_both b (quiet (record_tests e s.records) 1 refl (eqb-true _ _ t) (omega arith))));
       capacity = omega (arith, retired_none e.account s.records h.records_long h.books);
       bounds = λ r l f. absurd (none_flies e.account s.records h.records_long r l
           ((by_flies (retired_below record_count e.account.occupancy e.account.outstanding s.records).1 e.account.occupancy r).so f));
@@ -569,7 +569,7 @@ lookup_fits s k id (lookup.At r) low =
     let mine = (by_held (held s.endpoint.account.occupancy) (id_at s.records) id r).so low.here in
     ⊎_elim
     (λ (t : eqb v.state in_flight ≡ true).
-    let b = k.bounds r low.within (if_so (by_flies s.records s.endpoint.account.occupancy r) (mine.0, eqb_true _ _ t)) in
+    let b = k.bounds r low.within (if_so (by_flies s.records s.endpoint.account.occupancy r) (mine.0, eqb-true _ _ t)) in
     rw (t, lt-leb s.endpoint.shape.slots (v.place + 1) b.0, le-ltb packet_count v.count b.1) (and_false (eqb v.kind isoch)))
     (λ (t : eqb v.state in_flight ≡ false). rw t)
     (true_or_false (eqb v.state in_flight))

@@ -6,7 +6,7 @@ use mathlib.Core.List.{List}
 use mathlib.Core.Logic.{◌⊎◌, ⊎_elim}
 use mathlib.Core.Path.{◌≡◌, refl, ◌∙◌}
 use native.Mathlib.Omega.{arith}
-use borrow.Author.Tests.{eqb_true, ltb-false}
+use borrow.Author.Tests.{eqb-true, ltb-false}
 use lib.Dec.{eqb}
 use lib.ListN.{length}
 use Rattle.base.proofs.Compare.{same_or_not}
@@ -127,7 +127,7 @@ start_brief s request lengths b =
     let e = s.endpoint in
     picked (λ (a : Changed × List ℕ × List ℕ). Brief a.1) (eqb (start_no e s.records (length s.packets) request lengths) 0) _ _
     (λ t.
-    let passed = eqb_true (start_no e s.records (length s.packets) request lengths) 0 t in
+    let passed = eqb-true (start_no e s.records (length s.packets) request lengths) 0 t in
     let k = start_admitted e s.records s.packets request lengths passed in
     λ q l.
     ⊎_elim

@@ -6,7 +6,7 @@ use mathlib.Core.List.{List}
 use mathlib.Core.Logic.{◌⊎◌, inl, inr, ⊎_elim}
 use mathlib.Core.Path.{◌≡◌, refl, ap, ◌∙◌}
 use native.Mathlib.Omega.{arith}
-use borrow.Author.Tests.{eqb_true}
+use borrow.Author.Tests.{eqb-true}
 use lib.Dec.{eqb}
 use lib.ListN.{length, get_or, replicate}
 use Rattle.base.specs.First.{pick}
@@ -77,7 +77,7 @@ module _ (e : Endpoint) (finished records packets : List ℕ) (id : ℕ) where
   flying_kept r walks =
       let v = record_at records r in
       picked Kept (eqb v.kind control) _ _ (λ t. inl refl)
-      (λ t. picked Kept (eqb v.kind isoch) _ _ (λ u. inr (r, walks (eqb_true _ _ u)))
+      (λ t. picked Kept (eqb v.kind isoch) _ _ (λ u. inr (r, walks (eqb-true _ _ u)))
       (λ u. picked Kept (eqb v.kind bulk || eqb v.kind interrupt) _ _ (λ z. inl refl) (λ z. inl refl)))
 
   found_kept : (f : Lookup) → find_in records e.account.occupancy id ≡ f → reclaim_no e (length finished) records (length packets) id ≡ 0 → Kept (reclaim_found f e finished records packets)
@@ -86,14 +86,14 @@ module _ (e : Endpoint) (finished records packets : List ℕ) (id : ℕ) where
       let v = record_at records r in
       picked Kept (eqb v.state stopped) _ _ (λ t. inl refl)
       (λ t. picked Kept (eqb v.state in_flight) _ _
-      (λ u. flying_kept r (λ kind. record { admitted = pass; holder = is; flying = eqb_true _ _ u; iso = kind }))
+      (λ u. flying_kept r (λ kind. record { admitted = pass; holder = is; flying = eqb-true _ _ u; iso = kind }))
       (λ u. inl refl))
 
   pub reclaim_packets : Kept (reclaim e finished records packets id)
   unfolding reclaim
   reclaim_packets =
       picked Kept (eqb (reclaim_no e (length finished) records (length packets) id) 0) _ _
-      (λ t. found_kept (find_in records e.account.occupancy id) refl (eqb_true _ _ t)) (λ t. inl refl)
+      (λ t. found_kept (find_in records e.account.occupancy id) refl (eqb-true _ _ t)) (λ t. inl refl)
 
   module _ (r : ℕ) (h : Walks e finished records packets id r) where
     abbrev swept : Swept × List ℕ
@@ -159,7 +159,7 @@ unfolding start
 start_modest s request lengths m =
     picked (λ (a : Changed × List ℕ × List ℕ). Modest a.2) (eqb (start_no s.endpoint s.records (length s.packets) request lengths) 0) _ _
     (λ t.
-    let k = start_admitted s.endpoint s.records s.packets request lengths (eqb_true _ _ t) in
+    let k = start_admitted s.endpoint s.records s.packets request lengths (eqb-true _ _ t) in
     write_modest s.packets (record_taken s.endpoint) lengths k.packets_size_lem k.free.within m request.what request.length k.short)
     (λ t. m)
 

@@ -5,7 +5,7 @@ use mathlib.Core.Bool.{true}
 use mathlib.Core.List.{List}
 use mathlib.Core.Path.{◌≡◌, refl, sym, ap, ◌∙◌}
 use native.Mathlib.Omega.{arith}
-use borrow.Author.Tests.{eqb_true}
+use borrow.Author.Tests.{eqb-true}
 use lib.Dec.{eqb}
 use lib.ListN.{length}
 use Rattle.mask.specs.Occupancy.{held}
@@ -118,7 +118,7 @@ module _ (s : State) (r : ℕ) where
       let e = s.endpoint in
       picked (λ (a : Changed × List ℕ × List ℕ). Same v (record_at a.1 r)) (eqb (start_no e s.records (length s.packets) request lengths) 0) _ _
       (λ t.
-      let passed = eqb_true (start_no e s.records (length s.packets) request lengths) 0 t in
+      let passed = eqb-true (start_no e s.records (length s.packets) request lengths) 0 t in
       same_whole v _
       (records_kept e s.records s.packets request lengths passed r
       (λ q. never_both (sym (ap (held e.account.occupancy) q) ∙ mine) (record_free e s.records s.packets request lengths passed))))

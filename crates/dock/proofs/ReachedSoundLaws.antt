@@ -5,7 +5,7 @@ use mathlib.Core.List.{List, [], ◌∷◌}
 use mathlib.Core.Logic.{◌⊎◌, inl, inr, ⊎_elim}
 use mathlib.Core.Path.{◌≡◌, refl, sym, ap, ◌∙◌, subst}
 use native.Mathlib.Omega.{arith}
-use borrow.Author.Tests.{eqb_true, eq-eqb, ltb-true, ltb-false, not-false}
+use borrow.Author.Tests.{eqb-true, eq-eqb, ltb-true, ltb-false, not-false}
 use lib.Dec.{eqb, ltb, leb}
 use lib.ListN.{length, get_or, length-replicate}
 use lib.Seq.{length-paste}
@@ -162,7 +162,7 @@ module _ (ring finished records packets : List ℕ) (shape : Shape) (who : Ident
       (λ (t : Changed × List ℕ × List ℕ × List ℕ × List ℕ). t.0.answer ≡ Done → Sound (made_of t))
       (eqb (make_no (length ring) (length finished) (length records) (length packets) shape who) 0)
       _ _
-      (λ t d. fresh_sound (eqb_true _ _ t))
+      (λ t d. fresh_sound (eqb-true _ _ t))
       (λ t d. absurd (not_done _ d))
 
 made_sound : (s : State) → Made s → Sound s
@@ -257,7 +257,7 @@ unfolding start
 start_sound s request lengths h =
     picked (λ (a : Changed × List ℕ × List ℕ). Sound (state_of a.0.endpoint s.ring s.finished a.1 a.2))
     (eqb (start_no s.endpoint s.records (length s.packets) request lengths) 0) _ _
-    (λ t. started_sound s request lengths h (eqb_true _ _ t))
+    (λ t. started_sound s request lengths h (eqb-true _ _ t))
     (λ t. h)
 
 -- ---- a store
@@ -285,7 +285,7 @@ module _ (e : Endpoint) (p : place_fits e ≡ true) where
       (λ t. omega (arith, ltb-true (e.at.place + 1) e.shape.slots t))
       (λ t.
       let two = left_true (last && e.work.busy) (ltb 0 e.work.stored) t in
-      omega (arith, eqb_true (e.at.place + 1) e.shape.slots (left_true last e.work.busy two)))
+      omega (arith, eqb-true (e.at.place + 1) e.shape.slots (left_true last e.work.busy two)))
       (either_true plain more p)
 
 module _ (e : Endpoint) (p : place_fits e ≡ true) (b : e.work.busy ≡ true) (v : Record) (packets : List ℕ) where
@@ -342,11 +342,11 @@ module _ (s : State) (h : Sound s) where
       let n = next_of e v in
       picked (λ (a : StoredOne × List ℕ × List ℕ). Sound (state_of a.0.endpoint a.1 a.2 s.records s.packets)) (eqb refusal 0) _ _
       (λ t.
-      let p = (store_fits (eqb_true _ _ t)).0 in
-      let b = store_busy (eqb_true _ _ t) in
+      let p = (store_fits (eqb-true _ _ t)).0 in
+      let b = store_busy (eqb-true _ _ t) in
       follows_sound s _ _ _ h
       (settled_follows e (stepped n e v s.packets) v (stepped_follows e p b v s.packets n))
-      (ring_long_lem e p b v s.packets n refl (on_course e s.records (store_fits (eqb_true _ _ t)).1 b).first s.ring h.ring_long)
+      (ring_long_lem e p b v s.packets n refl (on_course e s.records (store_fits (eqb-true _ _ t)).1 b).first s.ring h.ring_long)
       (finished_long_lem e p b v s.packets n s.finished h.finished_long))
       (λ t. h)
 
@@ -422,7 +422,7 @@ retire_sound s h =
       records_long = all.long ∙ h.records_long;
       packets_long = h.packets_long;
       books = books_retired e.account s.records h.records_long h.books;
-      underway = λ b. absurd (never_both b (quiet (record_tests e s.records) 1 refl (eqb_true _ _ t) (omega arith)));
+      underway = λ b. absurd (never_both b (quiet (record_tests e s.records) 1 refl (eqb-true _ _ t) (omega arith)));
     })
     (λ t. h)
 
@@ -481,7 +481,7 @@ module _ (s : State) (id : ℕ) (allows : reclaim_no s.endpoint (length s.finish
       let same = own_packets_same r s.packets in
       picked Result (eqb v.state stopped) _ _
       (λ t.
-      let gone : part ≡ 0 = part_none s.records e.account.occupancy r (λ f. omega (arith, f.1, eqb_true v.state stopped t)) in
+      let gone : part ≡ 0 = part_none s.records e.account.occupancy r (λ f. omega (arith, f.1, eqb-true v.state stopped t)) in
       inr (record {
         number = r;
         lowest = low;
@@ -490,7 +490,7 @@ module _ (s : State) (id : ℕ) (allows : reclaim_no s.endpoint (length s.finish
       }))
       (λ t. picked Result (eqb v.state in_flight) _ _
       (λ u.
-      let flying = eqb_true v.state in_flight u in
+      let flying = eqb-true v.state in_flight u in
       let whole : v.count ≡ part = sym (part_flies s.records e.account.occupancy r mine.0 flying) in
       inr (record {
         number = r;
@@ -517,9 +517,9 @@ reclaim_result s id =
     picked (λ (t : ReclaimedOne × List ℕ × List ℕ). Untouched s t ⊎ Looked s id t)
     (eqb (reclaim_no e (length s.finished) s.records (length s.packets) id) 0) _ _
     (λ t.
-    found s id (eqb_true _ _ t) (find_in s.records e.account.occupancy id)
+    found s id (eqb-true _ _ t) (find_in s.records e.account.occupancy id)
     (find_finds record_count (held e.account.occupancy) (id_at s.records) id)
-    (quiet ts 1 refl (eqb_true _ _ t) (omega arith)))
+    (quiet ts 1 refl (eqb-true _ _ t) (omega arith)))
     (λ t. inl (record { endpoint = refl; records = refl; packets = refl; unended = refl }))
 
 -- A call that is not refused finds no submission under way.

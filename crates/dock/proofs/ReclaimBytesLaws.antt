@@ -8,7 +8,7 @@ use mathlib.Core.Logic.{◌⊎◌, ⊎_elim}
 use mathlib.Core.Path.{◌≡◌, refl, ap, ◌∙◌}
 use native.Mathlib.Nat.{mod-eq_of_lt}
 use native.Mathlib.Omega.{arith}
-use borrow.Author.Tests.{eqb_true, eqb_false, eq-eqb, ne_eqb, not-false}
+use borrow.Author.Tests.{eqb-true, eqb-false, eq-eqb, ne_eqb, not-false}
 use lib.Dec.{eqb, ltb}
 use lib.ListN.{length}
 use Rattle.base.specs.Fields.{flag}
@@ -66,17 +66,17 @@ passes_on (place.Event w) e v number p = rw p
 recorded_is : (v : Record) (n : ℕ) → v.recorded ≡ n + 1 → recorded_length v (recorded_by place.Nothing v) ≡ n
 recorded_is v n was =
     let recorded : ℕ = recorded_by place.Nothing v in
-    picked (λ (x : ℕ). x ≡ n) (eqb recorded 0) _ _ (λ z. omega (arith, eqb_true recorded 0 z)) (λ z. omega arith)
+    picked (λ (x : ℕ). x ≡ n) (eqb recorded 0) _ _ (λ z. omega (arith, eqb-true recorded 0 z)) (λ z. omega arith)
 
 unheard_is : (v : Record) → v.recorded ≡ 0 → recorded_length v (recorded_by place.Nothing v) ≡ v.length
 unheard_is v was =
     let recorded : ℕ = recorded_by place.Nothing v in
-    picked (λ (x : ℕ). x ≡ v.length) (eqb recorded 0) v.length (recorded - 1) (λ z. refl) (λ z. absurd (eqb_false recorded 0 z (omega arith)))
+    picked (λ (x : ℕ). x ≡ v.length) (eqb recorded 0) v.length (recorded - 1) (λ z. refl) (λ z. absurd (eqb-false recorded 0 z (omega arith)))
 
 recorded_less : (v : Record) (n : ℕ) → n ≤ v.length → v.length < 2 ^ 64 → recorded_length v ((n + 1) % 2 ^ 64) ≡ n
 recorded_less v n l fits =
     let recorded : ℕ = (n + 1) % 2 ^ 64 in
-    picked (λ (x : ℕ). x ≡ n) (eqb recorded 0) _ _ (λ z. omega (arith, eqb_true recorded 0 z)) (λ z. omega (arith, eqb_false recorded 0 z))
+    picked (λ (x : ℕ). x ≡ n) (eqb recorded 0) _ _ (λ z. omega (arith, eqb-true recorded 0 z)) (λ z. omega (arith, eqb-false recorded 0 z))
 
 module _ (e : Endpoint) (finished records packets : List ℕ) (id r : ℕ) (h : Due e finished records packets id r) where
   abbrev v : Record

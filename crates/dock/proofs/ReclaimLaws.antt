@@ -6,7 +6,7 @@ use mathlib.Core.List.{List}
 use mathlib.Core.Logic.{◌⊎◌, inl, inr, ⊎_elim}
 use mathlib.Core.Path.{◌≡◌, refl, sym, ◌∙◌, subst}
 use native.Mathlib.Omega.{arith}
-use borrow.Author.Tests.{eqb_true}
+use borrow.Author.Tests.{eqb-true}
 use lib.Dec.{eqb}
 use lib.Seq.{get_or-set_same, get_or-set_other}
 use lib.ListN.{length, length-set}
@@ -247,7 +247,7 @@ flying_touches e finished records packets number within long few =
     picked P (eqb v.kind control) _ _
     (λ t. record { end = control_ends e v number finished records; own_record = control_own number records within long e finished; own_packets = none })
     (λ t. picked P (eqb v.kind isoch) _ _
-    (λ s. record { end = iso_ends e v number finished packets; own_record = own; own_packets = iso_own e finished packets v number (few (eqb_true _ _ s)) })
+    (λ s. record { end = iso_ends e v number finished packets; own_record = own; own_packets = iso_own e finished packets v number (few (eqb-true _ _ s)) })
     (λ s. picked P (eqb v.kind bulk || eqb v.kind interrupt) _ _
     (λ u. record { end = bulk_ends e v number finished; own_record = own; own_packets = none })
     (λ u. record { end = inl refl; own_record = own; own_packets = none })))

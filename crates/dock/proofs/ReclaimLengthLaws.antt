@@ -5,7 +5,7 @@ use mathlib.Core.Bool.{true, ◌||◌}
 use mathlib.Core.List.{List}
 use mathlib.Core.Path.{◌≡◌, refl, sym, ap, ◌∙◌, subst}
 use native.Mathlib.Omega.{arith}
-use borrow.Author.Tests.{eqb_true, eqb_false}
+use borrow.Author.Tests.{eqb-true, eqb-false}
 use lib.Dec.{eqb}
 use lib.ListN.{length}
 use Rattle.base.proofs.Decide.{if_so}
@@ -94,7 +94,7 @@ module _ (e : Endpoint) (v : Record) (number : ℕ) (c : Completion) where
   flying_length finished records packets m other =
       let P : ReclaimedOne × List ℕ × List ℕ → Type 0 = λ t. t.0.answer ≡ answer.Done c → c.length ≤ v.length in
       picked P (eqb v.kind control) _ _ (λ t. control_length e v number finished records m c)
-      (λ t. picked P (eqb v.kind isoch) _ _ (λ u d. absurd (other (eqb_true _ _ u)))
+      (λ t. picked P (eqb v.kind isoch) _ _ (λ u d. absurd (other (eqb-true _ _ u)))
       (λ u. picked P (eqb v.kind bulk || eqb v.kind interrupt) _ _ (λ w. bulk_length e v number finished c) (λ w d. absurd (never_done e v number c d))))
 
   flying_total : (finished records packets : List ℕ) → v.kind ≡ isoch → (reclaim_flying e finished records packets v number).0.answer ≡ answer.Done c
@@ -102,8 +102,8 @@ module _ (e : Endpoint) (v : Record) (number : ℕ) (c : Completion) where
   unfolding reclaim_flying
   flying_total finished records packets kind =
       let P : ReclaimedOne × List ℕ × List ℕ → Type 0 = λ t. t.0.answer ≡ answer.Done c → c.length ≡ sum v.count (λ (k : ℕ). (packet_at t.2 number k).actual) in
-      picked P (eqb v.kind control) _ _ (λ t d. absurd (let is = eqb_true v.kind control t in omega arith))
-      (λ t. picked P (eqb v.kind isoch) _ _ (λ u. iso_length e v number finished packets c) (λ u d. absurd (eqb_false v.kind isoch u kind)))
+      picked P (eqb v.kind control) _ _ (λ t d. absurd (let is = eqb-true v.kind control t in omega arith))
+      (λ t. picked P (eqb v.kind isoch) _ _ (λ u. iso_length e v number finished packets c) (λ u d. absurd (eqb-false v.kind isoch u kind)))
 
 -- ---- the call
 
@@ -121,7 +121,7 @@ module _ {s : State} (h : Reached s) (id r : ℕ) (l : r < record_count) (has : 
   at_record : Flown (reclaim_found (lookup.At r) s.endpoint s.finished s.records s.packets)
   at_record =
       picked Flown (eqb (record_at s.records r).state stopped) _ _ (λ t d. absurd (let z : ◌≡◌ {A = ℕ} 0 1 = cc in omega arith))
-      (λ t. picked Flown (eqb (record_at s.records r).state in_flight) _ _ (λ u d. (eqb_true _ _ u, refl))
+      (λ t. picked Flown (eqb (record_at s.records r).state in_flight) _ _ (λ u d. (eqb-true _ _ u, refl))
       (λ u d. absurd (let z : ◌≡◌ {A = ℕ} 0 1 = cc in omega arith)))
 
   flown : Flown result

@@ -7,7 +7,7 @@ use mathlib.Core.List.{List}
 use mathlib.Core.Path.{◌≡◌, refl, sym, ap, ◌∙◌, subst}
 use native.Mathlib.Nat.{mod-eq_of_lt}
 use native.Mathlib.Omega.{arith}
-use borrow.Author.Tests.{eqb_true, eqb_false, eq-eqb, leb-false}
+use borrow.Author.Tests.{eqb-true, eqb-false, eq-eqb, leb-false}
 use lib.Dec.{eqb, leb, ltb}
 use lib.ListN.{length}
 use Rattle.base.specs.First.{pick}
@@ -179,10 +179,10 @@ module _ (e : Endpoint) (finished other records packets : List ℕ) (v : Record)
   flying_same : (v.kind ≡ isoch → v.count ≤ packet_count) → reclaim_flying e other records packets v r ≡ reclaim_flying e finished records packets v r
   unfolding reclaim_flying trb_count
   flying_same few =
-      same_picks (eqb v.kind control) _ _ _ _ (λ t. rw (control_same (eqb_true _ _ t)))
-      (λ t. same_picks (eqb v.kind isoch) _ _ _ _ (λ u. let kind = eqb_true v.kind isoch u in rw (iso_same kind (few kind)))
+      same_picks (eqb v.kind control) _ _ _ _ (λ t. rw (control_same (eqb-true _ _ t)))
+      (λ t. same_picks (eqb v.kind isoch) _ _ _ _ (λ u. let kind = eqb-true v.kind isoch u in rw (iso_same kind (few kind)))
       (λ u. same_picks (eqb v.kind bulk || eqb v.kind interrupt) _ _ _ _
-      (λ z. rw (bulk_same (eqb_false _ _ u) (one t u z)))
+      (λ z. rw (bulk_same (eqb-false _ _ u) (one t u z)))
       (λ z. refl)))
     where
       one : eqb v.kind control ≡ false → eqb v.kind isoch ≡ false → (eqb v.kind bulk || eqb v.kind interrupt) ≡ true → 0 < trb_count v
@@ -208,7 +208,7 @@ module _ (e : Endpoint) (finished other records packets : List ℕ) (id : ℕ) (
       same_picks (eqb v.state stopped) _ _ _ _ (λ t. refl)
       (λ t. same_picks (eqb v.state in_flight) _ _ _ _
       (λ u.
-      let flying = eqb_true v.state in_flight u in
+      let flying = eqb-true v.state in_flight u in
       flying_same e finished other records packets v r (place_low e records r bad flying) (λ p. same r p is) (few_packets e v bad flying))
       (λ u. refl))
 
@@ -220,7 +220,7 @@ module _ (e : Endpoint) (finished other records packets : List ℕ) (id : ℕ) (
       (same_picks (eqb (reclaim_no e (length finished) records (length packets) id) 0) _ _ _ _
       (λ t.
       found_same (find_in records e.account.occupancy id) refl
-      (quiet (reclaim_tests e (length finished) records (length packets) id) 1 refl (eqb_true _ _ t) (omega arith)))
+      (quiet (reclaim_tests e (length finished) records (length packets) id) 1 refl (eqb-true _ _ t) (omega arith)))
       (λ t. refl))
 
 -- ---- what a request in flight needs to be over
@@ -339,7 +339,7 @@ module _ (e : Endpoint) (finished records packets : List ℕ) (id r : ℕ) (admi
   unfolding reclaim_flying trb_count
   flying_tells =
       picked Tells (eqb v.kind control) _ _ (λ t. control_over e finished records packets v r low (rw t))
-      (λ t. picked Tells (eqb v.kind isoch) _ _ (λ u. iso_tells (eqb_true _ _ u))
+      (λ t. picked Tells (eqb v.kind isoch) _ _ (λ u. iso_tells (eqb-true _ _ u))
       (λ u. picked Tells (eqb v.kind bulk || eqb v.kind interrupt) _ _
       (λ z. bulk_over e finished records packets v r low (rw (t, u) (only_one (eqb v.kind bulk) (eqb v.kind interrupt) z)))
       (λ z. waits e finished records packets v r)))

@@ -6,7 +6,7 @@ use mathlib.Core.List.{List}
 use mathlib.Core.Logic.{⊎_elim}
 use mathlib.Core.Path.{◌≡◌, refl, sym, ap, ◌∙◌, subst}
 use native.Mathlib.Omega.{arith}
-use borrow.Author.Tests.{eqb_true, eq-eqb, ne_eqb, not-false}
+use borrow.Author.Tests.{eqb-true, eq-eqb, ne_eqb, not-false}
 use lib.Dec.{eqb}
 use lib.ListN.{length}
 use Rattle.base.proofs.Chosen.{quiet}
@@ -305,7 +305,7 @@ module _ (s : State) (h : Sound s) where
   unfolding retire
   retire_passed =
       picked (λ (a : Changed × List ℕ). a.0.answer ≡ Done → record_no s.endpoint s.records ≡ 0) (eqb (record_no s.endpoint s.records) 0) _ _
-      (λ t d. eqb_true _ _ t)
+      (λ t d. eqb-true _ _ t)
       (λ t d. absurd (let z : ◌≡◌ {A = ℕ} 0 1 = cc in omega arith))
 
   retire_idle : record_no s.endpoint s.records ≡ 0 → s.endpoint.work.busy ≡ false

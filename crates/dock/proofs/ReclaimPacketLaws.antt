@@ -6,7 +6,7 @@ use mathlib.Core.List.{List}
 use mathlib.Core.Logic.{⊎_elim}
 use mathlib.Core.Path.{◌≡◌, refl, sym, ap, subst, ◌∙◌}
 use native.Mathlib.Omega.{arith}
-use borrow.Author.Tests.{eqb_true, eq-eqb, ne_eqb}
+use borrow.Author.Tests.{eqb-true, eq-eqb, ne_eqb}
 use lib.Dec.{eqb}
 use lib.ListN.{length}
 use Rattle.base.proofs.Chosen.{quiet}
@@ -56,7 +56,7 @@ module _ (s : State) (c : Completion) where
       let v = record_at s.records r in
       picked (λ t. Told t v) (eqb v.state stopped) _ _ (λ t d. absurd (let z : ◌≡◌ {A = ℕ} 0 1 = cc in omega arith))
       (λ t. picked (λ t. Told t v) (eqb v.state in_flight) _ _
-      (λ u d. ended_tells v r (eqb_true _ _ u) (ending_of s v r) (sym (ap (λ (x : ReclaimedOne). x.answer) (flying_ends s v r)) ∙ d))
+      (λ u d. ended_tells v r (eqb-true _ _ u) (ending_of s v r) (sym (ap (λ (x : ReclaimedOne). x.answer) (flying_ends s v r)) ∙ d))
       (λ u d. absurd (never_done e v r c d)))
 
   refused_not_done : {row : ℕ} → answer.Refused row ≡ answer.Done c → ⊥
@@ -76,7 +76,7 @@ module _ (s : State) (c : Completion) where
         (eqb (reclaim_no e (length s.finished) s.records (length s.packets) id) 0) _ _
         (λ z d. (
           subst (λ (f : Lookup). Told (reclaim_found f e s.finished s.records s.packets) v) (sym (named_found _ _ id r named)) (found_tells r) d,
-          eqb_true _ _ z,
+          eqb-true _ _ z,
         ))
         (λ z d. absurd (refused_not_done d))
 

@@ -5,7 +5,7 @@ use mathlib.Core.Bool.{Bool, true, false, not, false≢true}
 use mathlib.Core.List.{List}
 use mathlib.Core.Path.{◌≡◌, refl, ap, ◌∙◌, subst}
 use native.Mathlib.Omega.{arith}
-use borrow.Author.Tests.{eqb_true, eqb_false}
+use borrow.Author.Tests.{eqb-true, eqb-false}
 use lib.Dec.{eqb}
 use Rattle.trb.specs.Layouts.{words_in}
 use Rattle.trb.specs.declared.Words.{Words}
@@ -96,4 +96,4 @@ module _ (e : Endpoint) (v : Record) (number : ℕ) (w : Words) (t : Told) (says
   data_moved a fits =
       let same = moved_residual says a v.length (remaining_of w) n is in
       let recorded : ℕ = (moved_bytes v.length (remaining_of w) + 1) % 2 ^ 64 in
-      picked (λ (x : ℕ). x ≡ n) (eqb recorded 0) _ _ (λ z. omega (arith, eqb_true recorded 0 z)) (λ z. omega (arith, eqb_false recorded 0 z))
+      picked (λ (x : ℕ). x ≡ n) (eqb recorded 0) _ _ (λ z. omega (arith, eqb-true recorded 0 z)) (λ z. omega (arith, eqb-false recorded 0 z))

@@ -7,7 +7,7 @@ use mathlib.Core.List.{List}
 use mathlib.Core.Logic.{◌⊎◌, inl, inr, ⊎_elim}
 use mathlib.Core.Path.{◌≡◌, refl, sym, ap, ◌∙◌, subst}
 use native.Mathlib.Omega.{arith}
-use borrow.Author.Tests.{eqb_true, eqb_false}
+use borrow.Author.Tests.{eqb-true, eqb-false}
 use lib.Dec.{eqb}
 use lib.ListN.{length, get_or}
 use lib.Seq.{get_or-set_same}
@@ -250,7 +250,7 @@ module _ (number : ℕ) (inside : number < record_count) where
 
           by_last : (b : Bool) → eqb (k + 1) v.count ≡ b → Tail k l (elim b [ true ↦ (found (code_of w), close_below k put number) | false ↦ more put ])
           by_last true e =
-              let last = eqb_true (k + 1) v.count e in
+              let last = eqb-true (k + 1) v.count e in
               record {
                 upto = k + 1;
                 from = omega arith;
@@ -265,7 +265,7 @@ module _ (number : ℕ) (inside : number < record_count) where
                 ending = closed w k last last clear here;
               }
           by_last false e =
-              let differs = eqb_false (k + 1) v.count e in
+              let differs = eqb-false (k + 1) v.count e in
               let t = onwards put (put_is_long l k (counted p n) long) (λ j q z. absurd (differs (sym q ∙ z))) in
               step k l put (more put) apart
               (λ b. rw now (same_either b (counted p (n % 2 ^ 31))) ∙ sym (by_event (bytes n) is b)) counts_here t

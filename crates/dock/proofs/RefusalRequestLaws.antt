@@ -5,7 +5,7 @@ use mathlib.Core.Bool.{Bool, true, false, not, ◌&&◌}
 use mathlib.Core.List.{List}
 use mathlib.Core.Logic.{◌⊎◌}
 use mathlib.Core.Path.{◌≡◌, refl, sym, subst, ◌∙◌}
-use borrow.Author.Tests.{eqb_true, not-false}
+use borrow.Author.Tests.{eqb-true, not-false}
 use lib.Dec.{eqb}
 use Rattle.base.proofs.Decide.{Decides, if_so, if_not, by_leb, by_ltb, by_eqb, by_true, both, either, negated, reworded}
 use Rattle.mask.specs.Occupancy.{held}
@@ -104,7 +104,7 @@ module _ (records : List ℕ) (occupancy : Occupancy) (id : ℕ) where
   -- A cancel that row 6 lets pass has such a record.
   flying_by : (f : Lookup) → Finds record_count named f → not_flying records f ≡ false → OfNamed (λ r. (record_at records r).state ≡ in_flight)
   flying_by Nothing f t = absurd (never_both refl t)
-  flying_by (At r) f t = (r, to_named r f, eqb_true (record_at records r).state in_flight (not-false _ t))
+  flying_by (At r) f t = (r, to_named r f, eqb-true (record_at records r).state in_flight (not-false _ t))
 
   pub flying_named : not_flying records (find_in records occupancy id) ≡ false → OfNamed (λ r. (record_at records r).state ≡ in_flight)
   flying_named = flying_by (find_in records occupancy id) (find_finds record_count (held occupancy) (id_at records) id)

@@ -5,7 +5,7 @@ use mathlib.Core.Bool.{Bool, true, false, ◌&&◌}
 use mathlib.Core.List.{List}
 use mathlib.Core.Path.{◌≡◌, refl, subst}
 use native.Mathlib.Omega.{arith}
-use borrow.Author.Tests.{not-false, eq-eqb, ne_eqb, lt-ltb, le-ltb, eqb_true, eqb_false, ltb-true, ltb-false}
+use borrow.Author.Tests.{not-false, eq-eqb, ne_eqb, lt-ltb, le-ltb, eqb-true, eqb-false, ltb-true, ltb-false}
 use lib.Dec.{eqb, ltb}
 use lib.ListN.{length}
 use Rattle.base.specs.First.{pick}
@@ -50,10 +50,10 @@ module _ (e : Endpoint) (v : Record) where
       → Reason (eqb (e.at.place + 1) e.shape.slots) (ltb e.work.stored (trb_count v)) (deferred v && eqb e.work.stored (trb_count v)) n
       → Why e v n
   unfolding Reason
-  worded the_link r = eqb_true _ _ r
-  worded the_trb r = (eqb_false _ _ r.0, ltb-true _ _ r.1)
-  worded the_first r = let s = by_again.so r.2 in (eqb_false _ _ r.0, s.0, s.1)
-  worded none r = (eqb_false _ _ r.0, ltb-false _ _ r.1, by_again.not_so r.2)
+  worded the_link r = eqb-true _ _ r
+  worded the_trb r = (eqb-false _ _ r.0, ltb-true _ _ r.1)
+  worded the_first r = let s = by_again.so r.2 in (eqb-false _ _ r.0, s.0, s.1)
+  worded none r = (eqb-false _ _ r.0, ltb-false _ _ r.1, by_again.not_so r.2)
 
   pub why : Why e v (next_of e v)
   unfolding next_of

@@ -4,7 +4,7 @@ use Prim.Native.Nat.{ℕ, ◌+◌}
 use mathlib.Core.Bool.{Bool, true, false, ◌&&◌}
 use mathlib.Core.List.{List, [], ◌∷◌}
 use mathlib.Core.Path.{◌≡◌, refl, sym, ap, ◌∙◌}
-use borrow.Author.Tests.{eqb_true, eqb_false, eq-eqb}
+use borrow.Author.Tests.{eqb-true, eqb-false, eq-eqb}
 use lib.Dec.{eqb}
 use lib.ListN.{length}
 use Rattle.base.specs.First.{pick}
@@ -123,8 +123,8 @@ module _ {s : State} (h : Reached s) (request : Request) (lengths : List ℕ) wh
   submit_number = by_number (eqb number 0) refl
     where
       by_number : (b : Bool) → eqb number 0 ≡ b → (answered s (submits request lengths)).0 ≡ ledger_no (ledger_of e) request lengths
-      by_number true t = let z = eqb_true number 0 t in (admitted z).0 ∙ sym z ∙ start_number
-      by_number false t = (refused (eqb_false number 0 t)).0 ∙ start_number
+      by_number true t = let z = eqb-true number 0 t in (admitted z).0 ∙ sym z ∙ start_number
+      by_number false t = (refused (eqb-false number 0 t)).0 ∙ start_number
 
   pub submit_ledger : ledger_of (after s (submits request lengths)).endpoint ≡ ledger_after (ledger_of e) request lengths
   unfolding ledger_after
@@ -132,8 +132,8 @@ module _ {s : State} (h : Reached s) (request : Request) (lengths : List ℕ) wh
     where
       by_number : (b : Bool) → eqb number 0 ≡ b
           → ledger_of whole.0.endpoint ≡ pick (eqb (ledger_no (ledger_of e) request lengths) 0) (taking (ledger_of e) request lengths) (ledger_of e)
-      by_number true t = (admitted (eqb_true number 0 t)).1 ∙ rw (sym start_number, t)
-      by_number false t = (refused (eqb_false number 0 t)).1 ∙ rw (sym start_number, t)
+      by_number true t = (admitted (eqb-true number 0 t)).1 ∙ rw (sym start_number, t)
+      by_number false t = (refused (eqb-false number 0 t)).1 ∙ rw (sym start_number, t)
 
 -- ---- submissions in order
 

@@ -7,6 +7,8 @@
 // A call that is refused leaves the endpoint's words as they are, even where a save would change them.
 //
 // Each function loads the endpoint, makes the call of its name, saves the endpoint and tells the answer; specs/Exported.antt says so, once each.
+#![tactic(auto)]
+
 ghost use Rattle.std.specs.Prelude.{◌≡◌};
 ghost use Rattle.dock_c.specs.Exported.{shape_given, identity_given, made, configured, started, stored_one, submitted, handed_over, reclaimed, cancelled, retired, reset_begun, reset_ended, stopped, resumed, pointed};
 

@@ -1,4 +1,6 @@
 // Every public call and the controller, by lines on standard input: the session's larger brother.
+#![tactic(auto)]
+
 fn main() {
     let mut ring = [0u32; program::WORDS];
     let mut finished = [0u32; program::WORDS];

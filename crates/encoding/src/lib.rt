@@ -2,6 +2,8 @@
 //
 // `words_of` makes the four words of any TRB with a given cycle bit, proved equal to its layout (crate `trb`, specs/Layouts.antt), and `encode`
 // fills a part of four words with them.
+#![tactic(auto)]
+
 ghost use Rattle.std.specs.Prelude.{◌≡◌};
 ghost use Rattle.base.specs.Part.{filled};
 ghost use Rattle.trb.specs.Layouts.{words_of, listed};

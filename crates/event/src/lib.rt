@@ -1,11 +1,13 @@
 // The event reader: a transfer event's four words taken apart. Document 01, "Words of a TRB".
+#![tactic(auto)]
+
 ghost use Rattle.std.specs.Prelude.{◌≡◌};
 ghost use Rattle.event.specs.Event.{event_of};
 
 use trb::Words;
 
 // What a transfer event says: its type, of which slot and endpoint, at which TRB, the bytes remaining and the completion code.
-#[derive(Drop)]
+#[derive(Clone, Copy)]
 pub struct Event {
     pub form: u32,
     pub slot: u32,

@@ -1,5 +1,7 @@
 // The finished table: one place for each slot of the ring, empty or one event. Four words a place; a place whose fourth word is 0 is empty, which
 // an event's never is, for its type stands there. Reading leaves it.
+#![tactic(auto)]
+
 ghost use Rattle.std.specs.Prelude.{◌≡◌, ◌+◌, ◌*◌, ◌≤◌, length};
 ghost use Rattle.finished.specs.Finished.{finished_at, clear_place, fill_place};
 ghost use Rattle.trb.specs.Layouts.{put_words};
@@ -7,7 +9,7 @@ ghost use Rattle.trb.specs.Layouts.{put_words};
 use trb::Words;
 
 // What stands in a place.
-#[derive(Drop)]
+#[derive(Clone, Copy)]
 pub enum Finished {
     Nothing,
     Event(Words),

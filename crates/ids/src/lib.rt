@@ -1,4 +1,6 @@
 // The first free request id, and the lowest held record with an id, over the words of 64 records and the occupancy, which says those that are held.
+#![tactic(auto)]
+
 ghost use Rattle.std.specs.Prelude.{◌≡◌, ◌*◌, ◌<◌, length};
 ghost use Rattle.ids.specs.Order.{after_id};
 ghost use Rattle.sizes.specs.Sizes.{records_size};
@@ -8,14 +10,14 @@ ghost use Rattle.ids.specs.Lookup.{find_in};
 use mask::Occupancy;
 
 // The id that is taken, and the one at which the next search starts.
-#[derive(Drop)]
+#[derive(Clone, Copy)]
 pub struct Taken {
     pub id: u64,
     pub next: u64,
 }
 
 // The record that has an id, if there is one.
-#[derive(Drop)]
+#[derive(Clone, Copy)]
 pub enum Lookup {
     At(usize),
     Nothing,

@@ -1,4 +1,6 @@
 // The packets of an ISO request: each length is read once, written to its packet record and stored in its TRB.
+#![tactic(auto)]
+
 ghost use Rattle.std.specs.Prelude.{◌≡◌, ◌+◌, ◌*◌, ◌<◌, ◌≤◌, length};
 ghost use Rattle.std.proofs.Math.Seq.{paste};
 ghost use Rattle.bursts.specs.Bursts.{bursts_of};
@@ -12,7 +14,7 @@ use ring::Position;
 use striding::put;
 
 // Where an ISO submission stands: the producer's position, the running address and the next frame number.
-#[derive(Drop)]
+#[derive(Clone, Copy)]
 pub struct Pen {
     pub at: Position,
     pub address: u64,

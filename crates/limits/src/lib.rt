@@ -1,4 +1,6 @@
 // The limits of a dock as tests on numbers: what making and row 1 of "When the dock says no" read. Every function takes any input.
+#![tactic(auto)]
+
 ghost use Rattle.std.specs.Prelude.{◌≡◌, ◌*◌, ◌<◌, eqb};
 ghost use Rattle.sizes.specs.Sizes.{ring_size};
 ghost use Rattle.dock.specs.Limits.{limits_hold};

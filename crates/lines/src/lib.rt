@@ -2,13 +2,15 @@
 //
 // So no line, no field and no number is too long. `Reading` is what is known between two bytes; the words and their fields are `words`', the digits
 // `digits`'.
+#![tactic(auto)]
+
 ghost use Rattle.std.specs.Prelude.{◌≡◌, drop};
 ghost use Rattle.lines.specs.Reader.{start, bad, letter, digit, keep, close_word, close_number, close, opened, feed, complete, finish, scan};
 
 // What is known of a line between two of its bytes: whether it may have a drive's words; whether all could be read so far; whether the field is a
 // word; the word before it and the word; the form of the fields still to come, that under way first; the number under way and whether it has a
 // digit; and how many numbers stand.
-#[derive(Drop)]
+#[derive(Clone, Copy)]
 pub struct Reading {
     pub full: bool,
     pub good: bool,
@@ -22,7 +24,7 @@ pub struct Reading {
 }
 
 // What was read of some bytes: the line so far, the place behind the last byte read, and whether the line ended there.
-#[derive(Drop)]
+#[derive(Clone, Copy)]
 pub struct Scanned {
     pub line: Reading,
     pub at: usize,

@@ -2,6 +2,8 @@
 // specs/State.antt has the words, also as `saved` writes them.
 //
 // The parts stand one behind the other, each from a word on: a part with more words moves those behind it, and nothing else.
+#![tactic(auto)]
+
 ghost use Rattle.std.specs.Prelude.{◌≡◌, length};
 ghost use Rattle.loaded.specs.State.{state_words, is_state, Fitting, load, position_at, shape_at, identity_at, periodic_at, account_at, flags_at, work_at};
 

@@ -1,3 +1,5 @@
 // Making a ring, and configuring a periodic endpoint.
+#![tactic(auto)]
+
 pub mod configure;
 pub mod make;

@@ -7,7 +7,7 @@ use mathlib.Core.Logic.{inl, inr, ⊎_elim}
 use mathlib.Core.Path.{◌≡◌, refl, sym, ap, ◌∙◌, subst}
 use native.Mathlib.Numerals.{add-one}
 use native.Mathlib.Omega.{arith}
-use borrow.Author.Tests.{eqb_true, eq-eqb, ne_eqb}
+use borrow.Author.Tests.{eqb-true, eq-eqb, ne_eqb}
 use lib.Dec.{eqb}
 use lib.ListN.{length, get_or, set, length-set}
 use lib.Seq.{get_or-set_same, get_or-set_other}
@@ -252,7 +252,7 @@ module _ (slots : ℕ) (finished : List ℕ) (v : Record) (number : ℕ) (inside
                 comes (turns (fuel - 1) (pick b (again (open_at k) (code_of w)) (onward (open_at k))) qs finished) ≡ end
             by_last true e =
                 let start : first ≡ first + 0 = omega arith in
-                let last = eqb_true (k + 1) v.count e in
+                let last = eqb-true (k + 1) v.count e in
                 ap (λ (s : Standing). comes (turns (fuel - 1) s qs finished)) (ap (λ (x : ℕ). record { at = x; end = first + v.count; first = first; place = place_of slots v.place k; slots = slots; ended = is_found; code = code_of w }) start)
                 ∙ closing (place_of slots v.place k) (code_of w) (words qs) v.count 0 (fuel - 1) qs (omega arith) (omega arith) (mirror v.count under) (sym (close_none (words qs) number))
                 ∙ ap (λ (x : List ℕ). (found (code_of w), x)) (last_closed last ∙ ap (λ (x : List ℕ). close_below k x number) put_is)

@@ -6,7 +6,7 @@ use mathlib.Core.List.{List}
 use mathlib.Core.Logic.{◌⊎◌, inl, inr, ⊎_elim}
 use mathlib.Core.Path.{◌≡◌, refl, ◌∙◌, subst}
 use native.Mathlib.Omega.{arith}
-use borrow.Author.Tests.{ltb-true, lt-ltb, le-ltb, eqb_true, eqb_false}
+use borrow.Author.Tests.{ltb-true, lt-ltb, le-ltb, eqb-true, eqb-false}
 use lib.Dec.{eqb, ltb}
 use lib.ListN.{length, get_or, set}
 use lib.Seq.{get_or-set_other}
@@ -51,7 +51,7 @@ pub record Kept (s : Standing) (finished : ℕ) (t : Standing) : Type 0 where
   pub fewer : left_turns t + 1 ≤ left_turns s
 
 behind_low : (slots p : ℕ) → p + 1 < slots → behind slots p + 1 < slots
-behind_low slots p low = picked (λ (n : ℕ). n + 1 < slots) (eqb (p + 2) slots) 0 (p + 1) (λ t. omega arith) (λ t. let d = eqb_false (p + 2) slots t in omega arith)
+behind_low slots p low = picked (λ (n : ℕ). n + 1 < slots) (eqb (p + 2) slots) 0 (p + 1) (λ t. omega arith) (λ t. let d = eqb-false (p + 2) slots t in omega arith)
 
 module _ (s : Standing) (finished : ℕ) (low : s.at < s.end) (f : Fine s finished) where
   -- A walk that has found the last packet closes one packet more.
@@ -75,7 +75,7 @@ module _ (s : Standing) (finished : ℕ) (low : s.at < s.end) (f : Fine s finish
     credit_kept : (p : Packet) (n code : ℕ) → Kept s finished (credit_of p n code s).standing
     unfolding credit_of
     credit_kept p n code =
-        picked (Kept s finished) (eqb (s.at + 1) s.end) (again s code) (onward s) (λ t. again_kept code (eqb_true _ _ t)) (λ t. on_kept)
+        picked (Kept s finished) (eqb (s.at + 1) s.end) (again s code) (onward s) (λ t. again_kept code (eqb-true _ _ t)) (λ t. on_kept)
 
     worth_kept : (x : Worth) (p : Packet) (code : ℕ) → Kept s finished (worth_by x p code s).standing
     worth_kept refused p code = broken_kept code
@@ -89,7 +89,7 @@ module _ (s : Standing) (finished : ℕ) (low : s.at < s.end) (f : Fine s finish
   pub turn_keeps : (p : Packet) (g : Finished) → Kept s finished (turn_of p g s).standing
   unfolding turn_of
   turn_keeps p g =
-      picked (λ (t : Turned). Kept s finished t.standing) (eqb s.ended is_found) _ _ (λ t. closing (eqb_true _ _ t))
+      picked (λ (t : Turned). Kept s finished t.standing) (eqb s.ended is_found) _ _ (λ t. closing (eqb-true _ _ t))
       (λ t. picked (λ (x : Turned). Kept s finished x.standing) p.marked _ _ (λ u. on_kept t) (λ u. seen_kept t g p))
 
 -- Where turns are left to do, one is counted.

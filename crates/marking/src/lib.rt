@@ -4,6 +4,8 @@
 // Where a walk stands is a record, by value. `turn` is the whole rule, for one packet: it marks it and says where to go on. The packets are passed
 // from the first to the last, until a code is refused or the last packet is found; then from the first on again, and those without an event count 0.
 // So a walk is at most two turns a packet. The loop over the lent table is `sweeping`'s.
+#![tactic(auto)]
+
 ghost use Rattle.std.specs.Prelude.{◌≡◌, ◌+◌, ◌<◌, length};
 ghost use Rattle.finished.specs.Finished.{finished_at};
 ghost use Rattle.marking.specs.Marking.{behind, fitting, begin_of, onward, closed_of, credit_of, seen_of, turn_of, Fine};
@@ -14,7 +16,7 @@ use sizes::PACKET_COUNT;
 use worth::{Value, value_of};
 
 // The packets of a request: where they stand in the table, how many, the place of the first one's TRB, and the ring's slots.
-#[derive(Drop)]
+#[derive(Clone, Copy)]
 pub struct Block {
     pub first: usize,
     pub count: usize,
@@ -32,7 +34,7 @@ pub const FOUND: u32 = 2;
 pub const UNFIT: u32 = 3;
 
 // Where a walk stands: the next packet and the place of its TRB; the first packet and the end; and how it ended, with the event's code.
-#[derive(Drop)]
+#[derive(Clone, Copy)]
 pub struct Standing {
     pub at: usize,
     pub end: usize,
@@ -44,7 +46,7 @@ pub struct Standing {
 }
 
 // A packet after its turn, and where the walk stands then.
-#[derive(Drop)]
+#[derive(Clone, Copy)]
 pub struct Turned {
     pub packet: Packet,
     pub standing: Standing,
@@ -214,7 +216,7 @@ pub fn turn(p: Packet, finished: &[u32], s: Standing) -> Turned
 }
 
 // The packets of a record by value, and how the walk ended.
-#[derive(Drop)]
+#[derive(Clone, Copy)]
 pub struct Marked {
     pub packets: [Packet; PACKET_COUNT],
     pub standing: Standing,

@@ -1,5 +1,7 @@
 // Occupancy: which records are held, and which is taken next. It is one 64-bit mask, bit i set while record i is held, and the lowest clear bit is
 // taken. Of how many masks it is made is told here only, and where an endpoint is words (`loaded`, `saved`).
+#![tactic(auto)]
+
 ghost use Rattle.std.specs.Prelude.{◌≡◌, ◌<◌, eqb};
 ghost use Rattle.sizes.specs.Sizes.{record_count};
 ghost use Rattle.mask.specs.Bit.{bit};
@@ -7,14 +9,14 @@ ghost use Rattle.mask.specs.Compute.{lowest_clear, set_bit, clear_bit};
 ghost use Rattle.mask.specs.Occupancy.{none, held, lowest, taken, freed};
 
 // The record to take next, if there is one.
-#[derive(Drop)]
+#[derive(Clone, Copy)]
 pub enum Found {
     At(usize),
     Full,
 }
 
 // The held records.
-#[derive(Drop)]
+#[derive(Clone, Copy)]
 pub struct Occupancy {
     pub bits: u64,
 }

@@ -13,7 +13,7 @@ use lib.Seq.{take-append_seam, append_snoc}
 use Rattle.order.specs.Model.{Slots, Position, choose, advance, around, next, Entry, Td, Work, idle, opening, busy, State, placed, layout, Plain, Zeroed, made}
 use Rattle.order.specs.Model.{leaves, storeBy, store, moved, stepBy, step, starts, begin, free, stop, resume, MayBegin, MayFree, Move, to_begin, to_store, to_step, to_free, to_stop_lem, to_resume, act, May, Run}
 use Rattle.order.specs.Model as Model
-use Rattle.order.proofs.Index.{pos, eqb_true, eqb_false}
+use Rattle.order.proofs.Index.{pos, eqb-true, eqb-false}
 use Rattle.order.proofs.Invariant.{Good, producer_is, put_visible, hide, put_hidden, reveal, put_link, cut, consume, follow, View, waits, follows, consumes, view, at_first}
 
 -- ---- the invariant of a state
@@ -130,8 +130,8 @@ module _ {K : ℕ} (S : Slots K) where
   module _ (p : Position) (E : ℕ) (hidden : List S.Trb) (open-to before : ℕ) where
     due_shows : (link : S.Trb) → hidden ≡ [] → S.is_link link ≡ true → (b : Bool) → eqb p.place K ≡ b
         → Doing S (choose b (busy [] link none) idle) p E hidden open-to before
-    due_shows link h k true e = record { none_hidden = h; plain = tt; is_link_lem = k; due = λ _. eqb_true p.place K e }
-    due_shows link h k false e = record { none_hidden = h; off_link = eqb_false p.place K e }
+    due_shows link h k true e = record { none_hidden = h; plain = tt; is_link_lem = k; due = λ _. eqb-true p.place K e }
+    due_shows link h k false e = record { none_hidden = h; off_link = eqb-false p.place K e }
 
     leaves_shows : (rest : List S.Trb) (link : S.Trb) → hidden ≡ [] → Plain S rest → S.is_link link ≡ true
         → Doing S (leaves p rest link none) p E hidden open-to before
@@ -242,7 +242,7 @@ module _ {K : ℕ} {S : Slots K} where
           on = f.on;
           good =
               put_visible S some_slot s.ring s.controller i.C i.E i.P i.queue p f.good
-              (eqb_false p.place K off) x d.plain.0 (omega (arith, f.good.visible_end, f.good.stored_end, f.covered, f.room));
+              (eqb-false p.place K off) x d.plain.0 (omega (arith, f.good.visible_end, f.good.stored_end, f.covered, f.room));
           ledger =
               rw (pending_leaves S (advance p) xs link none)
               (regroup s i.C (i.queue ++ [] ++ x ∷ xs) (i.queue ++ x ∷ [] ++ [] ++ xs) (one_shown S i.queue xs x) f.ledger);
@@ -266,7 +266,7 @@ module _ {K : ℕ} {S : Slots K} where
           on = f.on;
           good =
               put_hidden S some_slot s.ring s.controller i.C i.E i.P i.queue p d.first d.others
-              f.good (eqb_false p.place K off) x d.plain.0 (omega (arith, f.good.visible_end, f.good.stored_end, f.covered, f.room));
+              f.good (eqb-false p.place K off) x d.plain.0 (omega (arith, f.good.visible_end, f.good.stored_end, f.covered, f.room));
           ledger =
               rw (pending_leaves S (advance p) xs link (some again))
               (regroup s i.C (i.queue ++ d.first ∷ d.others ++ x ∷ xs) (i.queue ++ d.first ∷ (d.others ++ x ∷ []) ++ xs) (one_more S i.queue d.others xs d.first x) f.ledger);
@@ -304,7 +304,7 @@ module _ {K : ℕ} {S : Slots K} where
           covered = omega (arith, f.covered, length-append i.queue hidden);
           room = f.room;
         }
-        record { none_hidden = refl; off_link = eqb_false p.place K off }
+        record { none_hidden = refl; off_link = eqb-false p.place K off }
 
     -- the link
     store_link : (i : Inv s) (rest : List S.Trb) (link : S.Trb) (again : Option (Entry S))
@@ -331,13 +331,13 @@ module _ {K : ℕ} {S : Slots K} where
     store_by i (busy rest link none) true e k =
         let p : Position = s.producer in
         let d : Shows S rest link p i.hidden = doing_of s i e in
-        store_link i rest link none e (eqb_true p.place K k) d.is_link_lem
+        store_link i rest link none e (eqb-true p.place K k) d.is_link_lem
         (leaves_shows S (around p) i.E i.hidden (length s.consumed + length i.queue) s.before rest link
         d.none_hidden d.plain d.is_link_lem)
     store_by i (busy rest link (some again)) true e k =
         let p : Position = s.producer in
         let d : Hides S rest link again i.E i.hidden (length s.consumed + length i.queue) s.before = doing_of s i e in
-        store_link i rest link (some again) e (eqb_true p.place K k) d.is_link_lem
+        store_link i rest link (some again) e (eqb-true p.place K k) d.is_link_lem
         (leaves_hides S (around p) i.E i.hidden (length s.consumed + length i.queue) s.before rest link again d)
     store_by i (busy (x ∷ xs) link none) false e k = store_shown i x xs link e k
     store_by i (busy (x ∷ xs) link (some again)) false e k = store_hidden i x xs link again e k

@@ -10,7 +10,7 @@ use native.Mathlib.Omega.{arith}
 use lib.Dec.{eqb, leb, leb→le, le→leb}
 use lib.ListN.{length}
 use Rattle.order.specs.Model.{Slots, Position, choose, advance, around, Entry, Td, Work, idle, opening, busy, State, leaves, storeBy, store, starts, begin}
-use Rattle.order.proofs.Index.{eqb_true, eqb_false, T_true, not_T_false}
+use Rattle.order.proofs.Index.{eqb-true, eqb-false, T_true, not_T_false}
 use Rattle.order.proofs.Moves.{Inv, Busy, doing_of, store_keeps, facts}
 
 -- the link's store, if n TRBs from place i on come to slot K
@@ -45,7 +45,7 @@ module _ {K : ℕ} (S : Slots K) where
   left_due : (p : Position) (link : S.Trb) → p.place ≤ K → (b : Bool) → eqb p.place K ≡ b → leftBy {S =
       S} p (choose b (busy [] link none) idle) ≡ 0 + link_due K p.place 0 + 0
   left_due p link h true e = refl
-  left_due p link h false e = omega (arith, eqb_false p.place K e, due_no K p.place 0 (omega (arith, eqb_false p.place K e)))
+  left_due p link h false e = omega (arith, eqb-false p.place K e, due_no K p.place 0 (omega (arith, eqb-false p.place K e)))
 
   left_leaves : (p : Position) (rest : List S.Trb) (link : S.Trb) (again : Option (Entry S)) → p.place ≤ K
       → leftBy {S = S} p (leaves p rest link again) ≡ length rest + link_due K p.place (length rest) + again_due again
@@ -70,17 +70,17 @@ module _ {K : ℕ} {S : Slots K} where
           left_leaves S (around p) rest link again (omega arith),
           due_no K 0 (length rest)
               (omega (arith, few rest link again e)),
-          due_yes K p.place (length rest) (omega (arith, eqb_true p.place K k)),
+          due_yes K p.place (length rest) (omega (arith, eqb-true p.place K k)),
         )
     counts_by (busy (x ∷ xs) link again) false e k t =
         let p : Position = s.producer in
         let same : link_due K (suc p.place) (length xs) ≡ link_due K p.place (suc (length xs)) =
         ap (λ (n : ℕ). choose (leb K n) 1 0) (omega arith) in
-        omega (arith, left_leaves S (advance p) xs link again (omega (arith, i.good.producer_in, eqb_false p.place K k)))
+        omega (arith, left_leaves S (advance p) xs link again (omega (arith, i.good.producer_in, eqb-false p.place K k)))
     counts_by (busy [] link (some again)) false e k t =
         let p : Position = s.producer in
-        omega (arith, due_no K p.place 0 (omega (arith, i.good.producer_in, eqb_false p.place K k)))
-    counts_by (busy [] link none) false e k t = absurd (eqb_false s.producer.place K k ((doing_of s i e).due refl))
+        omega (arith, due_no K p.place 0 (omega (arith, i.good.producer_in, eqb-false p.place K k)))
+    counts_by (busy [] link none) false e k t = absurd (eqb-false s.producer.place K k ((doing_of s i e).due refl))
 
     pub store_counts : Busy s.work → suc (stores-left (store s)) ≡ stores-left s
     unfolding stores-left store

@@ -1,12 +1,14 @@
 // The packet records: one word a packet, 64 packets a record. A word holds what was requested (bits 0-31), what was counted (bits 32-62) and
 // whether the packet is marked as counted (bit 63), so any word is a packet.
+#![tactic(auto)]
+
 ghost use Rattle.std.specs.Prelude.{◌≡◌, ◌+◌, ◌*◌, ◌<◌, length};
 ghost use Rattle.base.specs.Fields.{flag};
 ghost use Rattle.packets.specs.Packets.{packet_of, packet_word, packet_index, packet_at, put_packet};
 
 use sizes::PACKET_COUNT;
 
-#[derive(Drop)]
+#[derive(Clone, Copy)]
 pub struct Packet {
     pub requested: u32,
     pub actual: u32,

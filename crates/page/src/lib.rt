@@ -1,5 +1,7 @@
 // A page: bytes that are to be written. `at` of them stand on it. A full page is written out before the next byte, so that none is left out
 // (`nothing_lost`, of the definitions; that `put` flushes there is run). Nobody but `flush` writes.
+#![tactic(auto)]
+
 ghost use Rattle.std.specs.Prelude.{◌≡◌, ◌<◌};
 ghost use Rattle.page.specs.Page.{put, put_all, decimal_field, hex_field, flag_field, newline};
 

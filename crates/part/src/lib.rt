@@ -1,4 +1,6 @@
 // A lent part of the ring filled with the four words of a TRB or of an event.
+#![tactic(auto)]
+
 ghost use Rattle.std.specs.Prelude.{◌≡◌};
 ghost use Rattle.base.specs.Part.{filled};
 ghost use Rattle.trb.specs.Layouts.{listed};

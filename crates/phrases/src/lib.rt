@@ -1,4 +1,6 @@
 // The parts that the lines of answers share, each put on a page: a word with a number, a refusal, four words, a slot, `bell`, `bad`.
+#![tactic(auto)]
+
 ghost use Rattle.std.specs.Prelude.{◌≡◌};
 ghost use Rattle.page.specs.Page.{put_all};
 ghost use Rattle.phrases.specs.Text.{word_line, number_line, no_line, failed_line, words_text, slot_line, bell_line};

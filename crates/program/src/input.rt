@@ -2,7 +2,7 @@
 use lines::{Reading, Scanned};
 
 // The input: what was read of it and not yet looked at stands from `at` to `have`. `line` is the number of the line that was read last.
-#[derive(Drop)]
+#[derive(Clone, Copy)]
 pub struct Input {
     pub at: usize,
     pub have: usize,
@@ -10,7 +10,7 @@ pub struct Input {
 }
 
 // A line of the input, and whether there was one; and how many bytes stand on the page.
-#[derive(Drop)]
+#[derive(Clone, Copy)]
 pub struct Got {
     pub some: bool,
     pub line: Reading,
@@ -19,7 +19,7 @@ pub struct Got {
 }
 
 // Where the input stands, and the page.
-#[derive(Drop)]
+#[derive(Clone, Copy)]
 pub struct Stand {
     pub from: usize,
     pub have: usize,

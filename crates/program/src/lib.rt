@@ -1,5 +1,7 @@
 // The loop of a session or a drive: bytes are read from standard input and handed to the reader of lines, each line is served, and what stands on the
 // page is written, to the input's end or a bad line. What a line does is decided in `console::serve` and `values::opening_of`.
+#![tactic(auto)]
+
 mod input;
 
 ghost use Rattle.std.specs.Prelude.{◌≤◌, length};
@@ -28,7 +30,7 @@ pub const VALUES: usize = 4098;
 pub const PAGE: usize = 65536;
 
 // What stands between two lines: whether a ring is made, its endpoint, and the controller.
-#[derive(Drop)]
+#[derive(Clone, Copy)]
 pub struct Bench {
     pub made: bool,
     pub e: Endpoint,
@@ -36,7 +38,7 @@ pub struct Bench {
 }
 
 // What a line leaves: the bench, how many bytes stand on the page, and whether the line was bad, so that nothing follows.
-#[derive(Drop)]
+#[derive(Clone, Copy)]
 pub struct Left {
     pub bench: Bench,
     pub page: usize,

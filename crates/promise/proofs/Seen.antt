@@ -7,7 +7,7 @@ use mathlib.Core.Logic.{◌⊎◌, inl, inr, ⊎_elim}
 use mathlib.Core.Path.{◌≡◌, refl, ap}
 use native.Mathlib.Nat.{mod-lt, mod-eq_of_lt}
 use native.Mathlib.Omega.{arith}
-use borrow.Author.Tests.{eqb_true}
+use borrow.Author.Tests.{eqb-true}
 use lib.Dec.{eqb}
 use Rattle.base.specs.First.{pick}
 use Rattle.base.proofs.Decide.{by_eqb, either}
@@ -120,7 +120,7 @@ module _ (K : ℕ) (some_place : 0 < K) (e : Endpoint) (shape : e.shape.slots �
         (λ (b : Bool).
         eqb (k + 1) v.count ≡ b
         → (let s : Swept × List ℕ = elim b [ true ↦ (found (code_of event), close_below k marked number) | false ↦ more marked ] in Walked s)) [
-          | true ↦ (λ q. inr (over_at k event (eqb_true _ _ q) said))
+          | true ↦ (λ q. inr (over_at k event (eqb-true _ _ q) said))
           | false ↦ (λ q. onwards marked)
         ] refl
 
@@ -163,7 +163,7 @@ module _ (K : ℕ) (some_place : 0 < K) (e : Endpoint) (shape : e.shape.slots �
   unfolding reclaim_flying
   flying_out c records packets =
       picked (λ (x : ReclaimedOne × List ℕ × List ℕ). Out x.0) (eqb v.kind control) _ _
-      (λ t. control_out (c.of_control (eqb_true _ _ t)) records)
+      (λ t. control_out (c.of_control (eqb-true _ _ t)) records)
       (λ t. picked (λ (x : ReclaimedOne × List ℕ × List ℕ). Out x.0) (eqb v.kind isoch) _ _
       (λ s. iso_out packets)
       (λ s. picked (λ (x : ReclaimedOne × List ℕ × List ℕ). Out x.0) (eqb v.kind bulk || eqb v.kind interrupt) _ _

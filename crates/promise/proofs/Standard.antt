@@ -5,7 +5,7 @@ use mathlib.Core.Bool.{Bool, true, false, not, beq, false≢true}
 use mathlib.Core.Logic.{⊎_elim}
 use mathlib.Core.Path.{◌≡◌, sym, ap, ◌∙◌, subst}
 use native.Mathlib.Omega.{arith}
-use borrow.Author.Tests.{eqb_true, eqb_false}
+use borrow.Author.Tests.{eqb-true, eqb-false}
 use lib.Dec.{eqb}
 use Rattle.ids.proofs.AnyLaws.{true_or_false}
 use Rattle.trb.specs.Cycle.{Pointer, past, owned, type_of, cycle_of}
@@ -49,7 +49,7 @@ module _ (w : World) (h : Sound w.dock) (k : Kept w) where
       by (waits other none_left) = absurd (not_other (cycle_of t) c.state own other)
       by (follows at-link same is_link_lem) = at-link
       by (consumes x xs queue-is here read_is x-plain) =
-          absurd (eqb_false (type_of t) 6 (ap link_type read_is ∙ (flat k.K).link_with c.state x ∙ x-plain) is)
+          absurd (eqb-false (type_of t) 6 (ap link_type read_is ∙ (flat k.K).link_with c.state x ∙ x-plain) is)
 
   past_own_link : owned t c ≡ true → type_of t ≡ 6 → past base t c ≡ record { slot = 0; state = not c.state }
   past_own_link own is =
@@ -68,7 +68,7 @@ module _ (w : World) (h : Sound w.dock) (k : Kept w) where
   unfolding does
   kept_goes own =
       ⊎_elim
-      (λ (q : eqb (type_of t) 6 ≡ true). rw (own, q) (sym (past_own_link own (eqb_true _ _ q))))
+      (λ (q : eqb (type_of t) 6 ≡ true). rw (own, q) (sym (past_own_link own (eqb-true _ _ q))))
       (λ (q : eqb (type_of t) 6 ≡ false). rw (own, q) (sym (past_plain q)))
       (true_or_false (eqb (type_of t) 6))
 

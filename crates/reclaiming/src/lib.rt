@@ -5,6 +5,8 @@
 // freed and its TRBs leave flight.
 //
 // `reclaim_request` takes any endpoint, tables and numbers: it tests what it needs, and what it answers and leaves is its definition in `dock`.
+#![tactic(auto)]
+
 ghost use Rattle.std.specs.Prelude.{◌≡◌, false, ◌≤◌, length};
 ghost use Rattle.sizes.specs.Sizes.{records_size, packet_count, packets_size, isoch};
 ghost use Rattle.records.specs.Records.{record_at};

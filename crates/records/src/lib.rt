@@ -1,5 +1,7 @@
 // The request records: twelve words for each of 64 records. Which of them are held stands in the occupancy, beside the table; a held record is
 // in flight or stopped. Every read is total: whatever words stand in the table, they say something.
+#![tactic(auto)]
+
 ghost use Rattle.std.specs.Prelude.{◌≡◌, ◌+◌, ◌*◌, ◌<◌, length};
 ghost use Rattle.base.specs.Fields.{flag};
 ghost use Rattle.base.specs.Part.{filled, put};
@@ -9,7 +11,7 @@ ghost use Rattle.records.specs.Records.{record_of, part_of, record_at, record_li
 use sizes::RECORD_WORDS;
 
 // What a request's later stores and its completion need.
-#[derive(Drop)]
+#[derive(Clone, Copy)]
 pub struct Record {
     pub id: u64,
     pub kind: u64,

@@ -5,7 +5,7 @@ use mathlib.Core.Bool.{Bool, true, false, not, ◌&&◌, ◌||◌, and-eq-true_i
 use mathlib.Core.List.{List}
 use mathlib.Core.Path.{◌≡◌, refl, sym, ap, subst}
 use native.Mathlib.Omega.{arith}
-use borrow.Author.Tests.{eq-eqb, eqb_true, ltb-true, ltb-false, leb-false, not-false}
+use borrow.Author.Tests.{eq-eqb, eqb-true, ltb-true, ltb-false, leb-false, not-false}
 use lib.Dec.{eqb, leb, ltb}
 use lib.ListN.{length}
 use Rattle.base.specs.First.{pick}
@@ -76,7 +76,7 @@ handed e finished w none =
     let ready : (fits e && eqb finished (ring_size e.shape.slots)) ≡ true = not-false _ (quiet ts 0 refl none (omega arith)) in
     let mine = not (eqb (event_of w).form 32) || not (eqb (event_of w).slot e.who.slot) || not (eqb (event_of w).endpoint e.who.dci) in
     let inside : is_outside (slot_for e w) ≡ false = (or_false mine (is_outside (slot_for e w)) (quiet ts 2 refl none (omega arith))).1 in (
-      eqb_true _ _ ((and-eq-true_iff (fits e) (eqb finished (ring_size e.shape.slots))).0 ready).1,
+      eqb-true _ _ ((and-eq-true_iff (fits e) (eqb finished (ring_size e.shape.slots))).0 ready).1,
       slot_below e.shape.base e.shape.slots (event_of w).address inside,
     )
 
@@ -99,9 +99,9 @@ fitted e finished records packets t =
     let w = fit_with e records two.0 in
     let l = (fit e w.fit).limits in
     let least = l.slots_least in (
-      record { least = least; most = l.slots_most; table = eqb_true _ _ two.1; place = omega arith; held = omega arith },
+      record { least = least; most = l.slots_most; table = eqb-true _ _ two.1; place = omega arith; held = omega arith },
       w.size,
-      eqb_true _ _ last.1,
+      eqb-true _ _ last.1,
     )
 
 -- Where a reclaim is not refused.

@@ -1,4 +1,6 @@
 // The refusals of hand over, cancel and reclaim, in document 01's order: one function a call, over tests that are functions of their own.
+#![tactic(auto)]
+
 ghost use Rattle.std.specs.Prelude.{◌≡◌, ◌&&◌, ◌*◌, eqb, length};
 ghost use Rattle.sizes.specs.Sizes.{ring_size, records_size, packets_size};
 ghost use Rattle.ids.specs.Lookup.{find_in};

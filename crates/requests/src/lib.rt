@@ -1,4 +1,6 @@
 // What a request asks for, case by case, and the record that is kept of it.
+#![tactic(auto)]
+
 ghost use Rattle.std.specs.Prelude.{◌≡◌, ◌+◌, ◌*◌, ◌^◌, max, eqb};
 ghost use Rattle.base.specs.First.{pick};
 ghost use Rattle.dock.specs.Requests.{kind_of, incoming_of, setup_of, given_of, required, buffer_of, record_for};

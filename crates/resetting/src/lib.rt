@@ -1,4 +1,6 @@
 // A reset is a begin, which gives the words of two commands, and an end, which is told whether they worked. Document 01, "What must change shape".
+#![tactic(auto)]
+
 ghost use Rattle.std.specs.Prelude.{◌≡◌, ◌+◌, ◌-◌, ◌*◌, ◌<◌, ◌&&◌, length};
 ghost use Rattle.sizes.specs.Sizes.{record_count, records_size};
 ghost use Rattle.ids.specs.Free.{any};

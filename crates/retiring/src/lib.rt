@@ -1,4 +1,6 @@
 // A retire: after a stop every request in flight becomes stopped, and its reclaim answers 7. Document 01, module 6.
+#![tactic(auto)]
+
 ghost use Rattle.std.specs.Prelude.{◌≡◌, ◌+◌, ◌-◌, ◌*◌, ◌<◌, length};
 ghost use Rattle.sizes.specs.Sizes.{record_count, records_size};
 ghost use Rattle.dock.specs.RowOne.{flies};

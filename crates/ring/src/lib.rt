@@ -7,13 +7,15 @@
 // stored again, with the right one, when the rest of its TD stands behind it.
 //
 // This crate knows no transfer. What it asks of its callers is that a slot lies in the ring; the calls of the dock test it.
+#![tactic(auto)]
+
 ghost use Rattle.std.specs.Prelude.{◌≡◌, ◌+◌, ◌*◌, ◌^◌, ◌<◌, ◌≤◌, length};
 ghost use Rattle.ring.specs.Ring.{store_at, cycle_by, position_by, stored_by, enque_transfer, enque_deferred, enque_again, next_index, slot_address, enqueue_pointer, slot_of};
 
 use trb::Trb;
 
 // Where the next TRB goes, and the cycle bit that it gets.
-#[derive(Drop)]
+#[derive(Clone, Copy)]
 pub struct Position {
     pub place: usize,
     pub cycle: bool,
@@ -30,7 +32,7 @@ fn set_transfer_trb(ring: &mut [u32], place: usize, trb: Trb, cycle: bool)
 
 // How a store is made: a TRB's, with the current cycle or, deferred, with the opposite one, after which the place rises; the link's, at the last
 // slot; or a deferred TRB's second one, with the right cycle, which moves nothing.
-#[derive(Drop)]
+#[derive(Clone, Copy)]
 pub enum Manner {
     Onward { deferred: bool },
     Around,
@@ -147,7 +149,7 @@ pub fn trb_bus_addr(base: u64, place: usize) -> u64
 }
 
 // Where the producer stands, as a command tells it to the controller.
-#[derive(Drop)]
+#[derive(Clone, Copy)]
 pub struct Pointer {
     pub address: u64,
     pub cycle: bool,
@@ -165,7 +167,7 @@ pub fn enqueue_pointer(base: u64, p: Position) -> Pointer
 }
 
 // The slot that an address names, if it is one of the ring's.
-#[derive(Drop)]
+#[derive(Clone, Copy)]
 pub enum Slot {
     At(usize),
     Outside,

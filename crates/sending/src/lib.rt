@@ -2,6 +2,8 @@
 // along, and the endpoint is rebuilt once, at the end.
 //
 // `send` asks what the tests of a submission showed (`Sendable`); `submit_request` of the crate `building` calls it behind them.
+#![tactic(auto)]
+
 ghost use Rattle.std.specs.Prelude.{◌≡◌, ◌+◌, ◌*◌, ◌≤◌, ◌<◌, length};
 ghost use Rattle.sizes.specs.Sizes.{packet_count, isoch};
 ghost use Rattle.dock.specs.Start.{at_least_one};

@@ -1,4 +1,6 @@
 // Document 01's session: lines on standard input, answers on standard output.
+#![tactic(auto)]
+
 fn main() {
     let mut ring = [0u32; program::WORDS];
     let mut finished = [0u32; program::WORDS];

@@ -1,1 +1,3 @@
 // Laws of what the lines of a session do and write, and no code.
+#![tactic(auto)]
+

@@ -1,5 +1,7 @@
 // The numbers of documents 01 and 02, most of them of "What a dock may hold", and the kinds of a request, each once: the constants here, for the code; the
 // same by the same name in specs/Sizes.antt, for the definitions (a slot id is a u8, so that its largest needs no constant). No function.
+#![tactic(auto)]
+
 
 // "Slots L: 3 to 4,096."
 pub const FEWEST_SLOTS: usize = 3;

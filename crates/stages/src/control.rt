@@ -15,7 +15,7 @@ use records::{RECORDED, Record};
 use worth::is_accepted;
 
 // A stage leaves the later ones to look at, or ends the request.
-#[derive(Drop)]
+#[derive(Clone, Copy)]
 pub enum Stage {
     Onward,
     Ends(ReclaimedOne),

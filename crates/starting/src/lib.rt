@@ -1,6 +1,8 @@
 // What an admitted submission takes and writes: id, record and count, and the record's packets anew.
 //
 // `take` and `begin` ask what the tests of `admission` showed (`Admitted`); the calls of the crate `building` make them behind these tests.
+#![tactic(auto)]
+
 ghost use Rattle.std.specs.Prelude.{◌≡◌, ◌+◌, ◌*◌, ◌^◌, ◌≤◌, ◌<◌, length};
 ghost use Rattle.std.proofs.Math.Seq.{paste};
 ghost use Rattle.sizes.specs.Sizes.{most_slots, capacity, record_count, records_size, packet_count};
@@ -93,7 +95,7 @@ fn started(e: Endpoint, next: u64, number: usize, request: Request, count: usize
 }
 
 // What an admitted submission takes: the endpoint with it under way, and the record that is kept of it.
-#[derive(Drop)]
+#[derive(Clone, Copy)]
 pub struct Begun {
     pub endpoint: Endpoint,
     pub kept: Record,

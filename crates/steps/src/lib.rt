@@ -1,4 +1,6 @@
 // What one store changes of the endpoint, and its answer: functions on values, for the stores one by one and for the whole submission.
+#![tactic(auto)]
+
 ghost use Rattle.std.specs.Prelude.{◌≡◌, ◌<◌, ◌≤◌, max};
 ghost use Rattle.sizes.specs.Sizes.{packet_count};
 ghost use Rattle.dock.specs.State.{idle, with_store};

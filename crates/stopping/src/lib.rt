@@ -2,6 +2,8 @@
 //
 // A retire follows a stop (crate `retiring`), a reset is a begin and an end (crate `resetting`). Sending commands and ringing the bell stay with the
 // dock.
+#![tactic(auto)]
+
 ghost use Rattle.std.specs.Prelude.{◌≡◌, ◌+◌, ◌-◌, ◌*◌, ◌^◌, ◌<◌};
 ghost use Rattle.sizes.specs.Sizes.{trb_bytes};
 ghost use Rattle.dock.specs.Commands.{reset_words, dequeue_words, stop, resume, pointer};

@@ -4,7 +4,7 @@ use mathlib.Core.Bool.{Bool, true, false, ◌&&◌, and-eq-true_iff}
 use mathlib.Core.List.{List}
 use mathlib.Core.Path.{◌≡◌, refl, sym, ap, subst, ◌∙◌}
 use native.Mathlib.Omega.{arith}
-use borrow.Author.Tests.{eqb_true, not-false}
+use borrow.Author.Tests.{eqb-true, not-false}
 use lib.Dec.{eqb}
 use Rattle.base.specs.First.{pick}
 use Rattle.base.proofs.Chosen.{quiet}
@@ -48,13 +48,13 @@ ready e ring finished records packets t =
       record {
         least = limits.slots_least;
         most = limits.slots_most;
-        table = eqb_true _ _ three.1;
+        table = eqb-true _ _ three.1;
         place = first_below (deferred (record_at records e.work.number)) _ _ way.first (omega (arith, limits.slots_least));
         held = way.number;
       },
-      eqb_true _ _ two.1,
+      eqb-true _ _ two.1,
       whole.size,
-      eqb_true _ _ all.1,
+      eqb-true _ _ all.1,
       sound.places.here,
       let s = way.counted in omega (arith, count_most (record_at records e.work.number)),
     )

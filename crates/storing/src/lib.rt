@@ -1,6 +1,8 @@
 // One store of a submission: its refusals, and the store by what is next.
 //
 // `store_no` takes any input. `store_one` asks what the tests showed (`Ready`); `next_store` of the crate `building` calls it behind them.
+#![tactic(auto)]
+
 ghost use Rattle.std.specs.Prelude.{◌≡◌, not, ◌&&◌, ◌+◌, ◌*◌, ◌≤◌, ◌<◌, eqb, length};
 ghost use Rattle.sizes.specs.Sizes.{ring_size, packet_count, packets_size};
 ghost use Rattle.dock.specs.RowOne.{fits_with};

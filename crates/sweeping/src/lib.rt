@@ -1,5 +1,7 @@
 // Packet records walked and marked in place, in the lent table: `mark_packets` is the loop alone, over the rule of `marking` (`begin`, `turn`), with every
 // packet outside the request's block left as it is; `marked_block` is the same for packets by value.
+#![tactic(auto)]
+
 ghost use Rattle.std.specs.Prelude.{◌≡◌, ◌<◌};
 ghost use Rattle.marking.specs.Marking.{walked};
 

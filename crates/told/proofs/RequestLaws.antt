@@ -3,7 +3,7 @@ use Prim.Native.Nat.{ℕ, ◌<◌, ◌^◌}
 use mathlib.Core.Bool.{true, and-eq-true_iff}
 use mathlib.Core.List.{List}
 use mathlib.Core.Path.{◌≡◌}
-use borrow.Author.Tests.{eqb_true, eq-eqb}
+use borrow.Author.Tests.{eqb-true, eq-eqb}
 use lib.Dec.{eqb}
 use lib.ListN.{length, get_or}
 use Rattle.base.proofs.Decide.{Decides, by_ltb, both, reworded}
@@ -13,7 +13,7 @@ use Rattle.told.specs.Request.{request_words, is_setup, is_request, Setup}
 -- The words of a request are eight.
 pub request_size : (w : List ℕ) → is_request w ≡ true → length w ≡ request_words
 unfolding is_request
-request_size w t = eqb_true _ _ ((and-eq-true_iff (eqb (length w) request_words) _).0 t).0
+request_size w t = eqb-true _ _ ((and-eq-true_iff (eqb (length w) request_words) _).0 t).0
 
 pub by_setup : (w : List ℕ) → Decides (is_setup w) (Setup w)
 by_setup w =

@@ -11,7 +11,7 @@ use trb::Words;
 pub const ANSWER_WORDS: usize = 9;
 
 // An answer: its number, how many values go with it, and the values, 0 behind the last.
-#[derive(Drop)]
+#[derive(Clone, Copy)]
 pub struct Told {
     pub number: u32,
     pub count: u64,

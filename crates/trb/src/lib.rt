@@ -2,9 +2,11 @@
 //
 // A TRB is four words of 32 bits. This crate knows no endpoint and no ring, and has no function: `Trb` names the fields that a driver sets, and
 // specs/Layouts.antt has the layouts, field by field, with the standard's section numbers. specs/Cycle.antt has the standard's cycle rule.
+#![tactic(auto)]
+
 
 // The four words of a TRB or of an event.
-#[derive(Drop)]
+#[derive(Clone, Copy)]
 pub struct Words {
     pub w0: u32,
     pub w1: u32,
@@ -13,7 +15,7 @@ pub struct Words {
 }
 
 // Every TRB that a driver stores or sends, with the fields that it sets. A value too large for its field is cut to the field's width.
-#[derive(Drop)]
+#[derive(Clone, Copy)]
 pub enum Trb {
     Normal {
         address: u64,

@@ -1,4 +1,6 @@
 // The TRBs of a request, computed from its record and the size of its packet. Document 01, "Words of a TRB".
+#![tactic(auto)]
+
 ghost use Rattle.std.specs.Prelude.{◌≡◌, not, ◌&&◌, ◌≤◌, ltb};
 ghost use Rattle.sizes.specs.Sizes.{packet_count};
 ghost use Rattle.dock.specs.Trbs.{transfer_type, setup_trb, data_trb, status_trb, normal_trb, packet_trb, isoch_trb};

@@ -1,5 +1,7 @@
 // The values of a line as what a call takes: numbers of their types, a request, the lengths of its packets, an event's words; and what a line is where
 // no ring is made.
+#![tactic(auto)]
+
 ghost use Rattle.std.specs.Prelude.{◌≡◌, ◌%◌, ◌<◌, length};
 ghost use Rattle.values.specs.Values.{value, byte, half, word, shape_of, identity_of, what_of, address_at, request_of, lengths_of, event_of, opening_of, is_bad};
 
@@ -8,7 +10,7 @@ use lines::Reading;
 use trb::Words;
 
 // How the session goes on: with the next line; with no ring; or not at all, since the line was bad.
-#[derive(Drop)]
+#[derive(Clone, Copy)]
 pub enum Next {
     On,
     New,
@@ -16,7 +18,7 @@ pub enum Next {
 }
 
 // What a line leaves: the endpoint, how many bytes stand on the page, and how the session goes on.
-#[derive(Drop)]
+#[derive(Clone, Copy)]
 pub struct Turn {
     pub e: Endpoint,
     pub at: usize,
@@ -24,7 +26,7 @@ pub struct Turn {
 }
 
 // What a line is where no ring is made.
-#[derive(Drop)]
+#[derive(Clone, Copy)]
 pub enum Opening {
     Bad,
     TooLarge,

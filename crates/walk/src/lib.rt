@@ -1,5 +1,7 @@
 // The reclaim of an isochronous request, over packets that are kept as words: they are read into packet records, which are walked and marked in place
 // (crate `sweeping`), and those that the walk has marked go back into their words. Then the total is the sum.
+#![tactic(auto)]
+
 ghost use Rattle.std.specs.Prelude.{◌≡◌, ◌*◌, ◌≤◌, ◌<◌, length, get_or};
 ghost use Rattle.sizes.specs.Sizes.{record_count, packet_count, packets_size};
 ghost use Rattle.dock.specs.Reclaim.{total, sweep, reclaim_iso};
@@ -17,7 +19,7 @@ use records::Record;
 use sizes::PACKET_COUNT;
 
 // How a walk over packets ended: with nothing told yet, at a refused code, or at the last packet.
-#[derive(Drop)]
+#[derive(Clone, Copy)]
 pub enum Walk {
     Open,
     Fatal(u32),

@@ -1,4 +1,6 @@
 // The words of the TRBs, each by itself: a word is arithmetic on its fields, proved equal to the word of its list of fields.
+#![tactic(auto)]
+
 ghost use Rattle.std.specs.Prelude.{◌≡◌, ◌<◌};
 ghost use Rattle.base.specs.Fields.{flag, word};
 ghost use Rattle.trb.specs.Layouts.{address_low, address_high, pointer_low, sizes, setup_request, setup_index, setup_control};

@@ -2,6 +2,8 @@
 //
 // A word is read as the number that its letters make, a to z as the digits 1 to 26 of base 32: then it is one comparison, and no two words make
 // one number. The fields that a word takes are a form: a number whose hex digits, from the lowest, are the kinds of the fields in order.
+#![tactic(auto)]
+
 ghost use Rattle.std.specs.Prelude.{◌≡◌, ◌||◌, eqb};
 ghost use Rattle.words.specs.Words.{session_form, is_bare, takes_count, takes_name, drive_form, request_form, table_form};
 ghost use Rattle.words.specs.Words.{form_of, is_hex, base_of, most_of, rest_of};

@@ -1,10 +1,12 @@
 // What a packet is worth: the bytes that an event with a completion code counts for, or that its code is refused. Document 01, "What a packet is worth".
+#![tactic(auto)]
+
 ghost use Rattle.std.specs.Prelude.{◌≡◌};
 ghost use Rattle.dock.specs.Worth.{accepted, moved_bytes, counts, worth};
 ghost use Rattle.worth.specs.Values.{worth_of};
 
 // Bytes, or a code that is refused.
-#[derive(Drop)]
+#[derive(Clone, Copy)]
 pub enum Value {
     Bytes(u32),
     Refused,
