@@ -1,7 +1,6 @@
 -- `ids::find_id` meets its contract: no record below `at` holds the id. Assumes nothing.
 use mathlib.Core.Path.{◌≡◌, sym, ◌∙◌}
 use mathlib.Core.Bool.{false}
-use mathlib.Core.Logic.{⊎_elim}
 use Prim.Native.Nat.{ℕ, ◌-◌}
 use native.Mathlib.Omega.{arith}
 use borrow.Author.Count.{below_more}
@@ -13,6 +12,7 @@ use Rattle.ids.specs.declared.Lookup.TheVariants.{At, Nothing}
 use Rattle.ids.proofs.AnyLaws.{never_both, by_held}
 use Rattle.ids.proofs.LookupLaws.{find_computed}
 use Rattle.ids.proofs.find_id.Goals as goal
+use Rattle.ids.proofs.find_id.Goals.{then-is_held+else-records-at, else-is_held}
 
 -- record `at` is held and has the id, and no lower one is and has
 pub returns-then-records-at : goal.returns-then-records-at
@@ -27,10 +27,7 @@ pub loop-at-preserved : goal.loop-at-preserved
 loop-at-preserved c =
     let a = c.args in
     let t = c.loop-at in
-    let here = if_not (by_held (held a.occupancy) (id_at a.records.now) a.id t.at) (λ h. ⊎_elim
-    (λ w. w.2.left h.1)
-    (λ w. never_both h.0 (sym c.is_held.ensures ∙ w.left))
-    c.if-is_held.branch) in
+    let here = if_not (by_held (held a.occupancy) (id_at a.records.now) a.id t.at) (λ h. elim c.if-is_held.branch [ then-is_held+else-records-at w ↦ w.if-records-at.false h.1 | else-is_held w ↦ never_both h.0 (sym c.is_held.ensures ∙ w.if-is_held.false) ]) in
     (omega arith, below_more (λ (k : ℕ). held_by (held a.occupancy) (id_at a.records.now) a.id k ≡ false) t.at t.invariant.1 here)
 
 -- the loop ended by its test: no record is held and has the id

@@ -15,7 +15,7 @@ loop-at-init c = (refl, refl)
 
 pub shape_of-values-then-b-eq10 : goal.shape_of-values-then-b-eq10
 shape_of-values-then-b-eq10 c =
-    c.finish.auto.1.0 ∙ c.loop-at.invariant.0
+    c.finish.auto.values ∙ c.loop-at.invariant.0
 
 pub returns-then-b-eq10 : goal.returns-then-b-eq10
 returns-then-b-eq10 c =
@@ -27,7 +27,7 @@ pub loop-at-preserved : goal.loop-at-preserved
 loop-at-preserved c =
     let l = c.loop-at in
     let b = c.args.bytes.now in
-    (c.feed-line.auto.1.0 ∙ l.invariant.0, ap (λ (x : Reading × List ℕ). scan (drop (l.at + 1) b) (l.at + 1) x.0 x.1) c.feed-line.ensures ∙ scan_goes b l.at l.line l.values (omega arith) c.if-b-eq10.false ∙ l.invariant.1)
+    (c.feed-line.auto.values ∙ l.invariant.0, ap (λ (x : Reading × List ℕ). scan (drop (l.at + 1) b) (l.at + 1) x.0 x.1) c.feed-line.ensures ∙ scan_goes b l.at l.line l.values (omega arith) c.if-b-eq10.false ∙ l.invariant.1)
 
 pub shape_of-values : goal.shape_of-values
 shape_of-values c = c.loop-at.invariant.0
