@@ -5,15 +5,18 @@
 ghost use Rattle.std.specs.Prelude.{◌≡◌, ◌<◌};
 ghost use Rattle.page.specs.Page.{put, put_all, decimal_field, hex_field, flag_field, newline};
 
+// The descriptor of standard output.
+const STDOUT: i32 = 1;
+
 // What stands on the page is written, and nothing stands there.
 pub fn flush(out: &[u8], at: usize) -> usize
     ensures { result ≡ 0 }
 {
     if at < out.len() {
-        io::write_all(libc::STDOUT_FILENO, &out[..at]);
+        io::write_all(STDOUT, &out[..at]);
         return 0;
     }
-    io::write_all(libc::STDOUT_FILENO, out);
+    io::write_all(STDOUT, out);
     0
 }
 
