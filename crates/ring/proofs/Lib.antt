@@ -1,4 +1,3 @@
 -- The laws of the stores and of slots, and of a position that is lent.
-pub mod Lent
 pub mod RuleLaws
 pub mod SlotLaws
