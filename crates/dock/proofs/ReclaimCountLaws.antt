@@ -153,26 +153,26 @@ module _ (e : Endpoint) (finished records packets : List ℕ) (id r : ℕ) (h : 
       (lt_or_le k reclaim_settles.upto)
 
   -- The walk reaches every packet up to which no event is refused.
-  reached_by : (s : Swept) (upto k : ℕ) → Ending before stands v.count upto s → k < v.count → ((j : ℕ) → j ≤ k → Refuses (before j) (stands j) → ⊥) → k < upto
-  reached_by s upto k (ran all last) low none = omega arith
-  reached_by s upto k (broke under x) low none = ⊎_elim (λ (l : k < upto). l) (λ (l : upto ≤ k). absurd (none upto l x)) (lt_or_le k upto)
-  reached_by s upto k (closed w j all last clear here) low none = omega arith
+  reached_by : (upto : ℕ) (s : Swept) (k : ℕ) → Ending before stands v.count upto s → k < v.count → ((j : ℕ) → j ≤ k → Refuses (before j) (stands j) → ⊥) → k < upto
+  reached_by upto s k (ran all last) low none = omega arith
+  reached_by upto s k (broke under x) low none = ⊎_elim (λ (l : k < upto). l) (λ (l : upto ≤ k). absurd (none upto l x)) (lt_or_le k upto)
+  reached_by upto s k (closed w j all last clear here) low none = omega arith
 
   -- The last packet is not marked, and its event stands in its place.
   abbrev pub LastStands : Type 0
   LastStands = (w : Words) × (k : ℕ) × (k + 1 ≡ v.count) × ((before k).marked ≡ false) × (stands k ≡ place.Event w)
 
-  found_last : (s : Swept) (upto : ℕ) → Ending before stands v.count upto s → is_found s ≡ true → (upto ≡ v.count) × LastStands
-  found_last s upto (ran all last) f = absurd (false≢true f)
-  found_last s upto (broke under x) f = absurd (false≢true f)
-  found_last s upto (closed w k all last clear here) f = (all, (w, k, last, clear, here))
+  found_last : (upto : ℕ) (s : Swept) → Ending before stands v.count upto s → is_found s ≡ true → (upto ≡ v.count) × LastStands
+  found_last upto s (ran all last) f = absurd (false≢true f)
+  found_last upto s (broke under x) f = absurd (false≢true f)
+  found_last upto s (closed w k all last clear here) f = (all, (w, k, last, clear, here))
 
   module _ (k : ℕ) (low : k < v.count) (clear : (before k).marked ≡ false) where
     -- A packet counts what its event is worth, of which its word keeps 31 bits, where no event before it is refused.
     pub packet_counted : (w : Words) (n : ℕ) → stands k ≡ place.Event w → worth (code_of w) (before k).requested (remaining_of w) ≡ bytes n
         → ((j : ℕ) → j < k → Refuses (before j) (stands j) → ⊥) → after k ≡ counted (before k) (n % 2 ^ 31)
     packet_counted w n here is none =
-        passes k (reached_by swept.0 reclaim_settles.upto k reclaim_settles.ending low not_refused) ∙ rw (clear, here, is)
+        passes k (reached_by reclaim_settles.upto swept.0 k reclaim_settles.ending low not_refused) ∙ rw (clear, here, is)
       where
         worth_here : Refuses (before k) (stands k) → ⊥
         worth_here x = let q = x.2 in let u = x.3 in let z : ◌≡◌ {A = ℕ} 0 1 = cc in omega arith
@@ -214,7 +214,7 @@ module _ (e : Endpoint) (finished records packets : List ℕ) (id r : ℕ) (h : 
       where
         by_found : (b : Bool) → is_found swept.0 ≡ b → after k ≡ settled (is_found swept.0) (stands k) (before k)
             → (after k ≡ before k) ⊎ ((after k ≡ counted (before k) 0) × LastStands)
-        by_found true f is = inr (is ∙ rw (clear, none, f), (found_last swept.0 reclaim_settles.upto reclaim_settles.ending f).1)
+        by_found true f is = inr (is ∙ rw (clear, none, f), (found_last reclaim_settles.upto swept.0 reclaim_settles.ending f).1)
         by_found false f is = inl (is ∙ rw (clear, none, f))
 
   -- ---- the request
@@ -230,7 +230,7 @@ module _ (e : Endpoint) (finished records packets : List ℕ) (id r : ℕ) (h : 
     last_found = done_found swept.0 swept.1 c (sym (ap (λ (x : ReclaimedOne × List ℕ × List ℕ). x.0.answer) reclaim_walks) ∙ done)
 
     at_end : (reclaim_settles.upto ≡ v.count) × LastStands
-    at_end = found_last swept.0 reclaim_settles.upto reclaim_settles.ending last_found
+    at_end = found_last reclaim_settles.upto swept.0 reclaim_settles.ending last_found
 
     -- the event of its last packet stands,
     pub done_last : LastStands

@@ -305,11 +305,11 @@ module _ (e : Endpoint) (finished records packets : List ℕ) (v : Record) (r : 
             plus_one true = refl
             plus_one false = refl
 
-  swept_over : (s : Swept) (upto : ℕ) (l : List ℕ) → trb_count v ≡ v.count → Ending (packet_at packets r) standsAt v.count upto s → Over (swept_answer s e v r l)
-  swept_over s upto l count (ran all none) = waits
-  swept_over s upto l count (broke under x) =
+  swept_over : (upto : ℕ) (s : Swept) (l : List ℕ) → trb_count v ≡ v.count → Ending (packet_at packets r) standsAt v.count upto s → Over (swept_answer s e v r l)
+  swept_over upto s l count (ran all none) = waits
+  swept_over upto s l count (broke under x) =
       record { told = λ over. packet upto under x; done = λ c d. absurd (refused_not_done e v r (code_of x.0) 0 c d) }
-  swept_over s upto l count (closed w k all at clear here) = ends_last (swept_answer s e v r l) (w, k, at ∙ sym count, here)
+  swept_over upto s l count (closed w k all at clear here) = ends_last (swept_answer s e v r l) (w, k, at ∙ sym count, here)
 
 module _ (e : Endpoint) (finished records packets : List ℕ) (id r : ℕ) (admitted : reclaim_no e (length finished) records (length packets) id ≡ 0)
     (holder : find_in records e.account.occupancy id ≡ At r) (flying : (record_at records r).state ≡ in_flight) where
@@ -333,7 +333,7 @@ module _ (e : Endpoint) (finished records packets : List ℕ) (id r : ℕ) (admi
       let s = reclaim_settles e finished records packets id r h in
       let n = few e finished records packets id r h in
       let swept = sweep e.shape.slots finished v r v.count 0 packets in
-      swept_over e finished records packets v r swept.0 s.upto swept.1 (rw kind (omega arith)) s.ending
+      swept_over e finished records packets v r s.upto swept.0 swept.1 (rw kind (omega arith)) s.ending
 
   flying_tells : Tells (reclaim_flying e finished records packets v r)
   unfolding reclaim_flying trb_count

@@ -152,5 +152,5 @@ ledger_numbers b (a ∷ more) = ledger_no b a.0 a.1 ∷ ledger_numbers (ledger_a
 -- They are the same.
 pub numbers_are : {s : State} → Reached s → (list : List Asked) → numbers_from s list ≡ ledger_numbers (ledger_of s.endpoint) list
 unfolding numbers_from ledger_numbers
-numbers_are h [] = refl
-numbers_are {s} h (a ∷ more) = rw (numbers_are (next h (submits a.0 a.1)) more, submit_number h a.0 a.1, submit_ledger h a.0 a.1)
+numbers_are {s} h [] = refl
+numbers_are {s} h (a ∷ more) = rw (numbers_are {s = after s (submits a.0 a.1)} (next h (submits a.0 a.1)) more, submit_number h a.0 a.1, submit_ledger h a.0 a.1)
