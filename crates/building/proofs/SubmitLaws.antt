@@ -75,13 +75,13 @@ module _ (e : Endpoint) (ring finished records packets : List ℕ) (request : Re
     pub takes : Admitted e (length records) (length packets) request (length lengths)
     takes = admitted e records (length packets) request lengths passed
 
-    abbrev begunNow : Endpoint
-    begunNow = started_endpoint e records request lengths
+    abbrev begun_now : Endpoint
+    begun_now = started_endpoint e records request lengths
 
     abbrev held : Record
     held = record_for request (length lengths) (id_taken e records) e.at.place
 
-    now_sendable : Sendable begunNow (length ring) (length finished) (length packets)
+    now_sendable : Sendable begun_now (length ring) (length finished) (length packets)
     unfolding started_endpoint
     now_sendable =
         let s = start_admitted e records packets request lengths passed in
@@ -98,7 +98,7 @@ module _ (e : Endpoint) (ring finished records packets : List ℕ) (request : Re
         )
 
     module _ {b : Begun} {records₁ : List ℕ} (taken : ◌≡◌ {A = Begun × List ℕ} (b, records₁) (taken_with e records request (length lengths))) where
-      begun_is : b.endpoint ≡ begunNow
+      begun_is : b.endpoint ≡ begun_now
       begun_is = ap (λ (x : Begun × List ℕ). x.0.endpoint) (taken ∙ taken_is e records request lengths)
 
       held_is : b.kept ≡ held
@@ -114,16 +114,16 @@ module _ (e : Endpoint) (ring finished records packets : List ℕ) (request : Re
         λ k. few request.what request.length lengths (start_admitted e records packets request lengths passed).short (sym (ap (λ (v : Record). v.kind) held_is) ∙ k),
       )
 
-      abbrev withRecords : List ℕ → Sent → Left
-      withRecords l s = (s.0, s.1, s.2, l, s.3)
+      abbrev with_records : List ℕ → Sent → Left
+      with_records l s = (s.0, s.1, s.2, l, s.3)
 
       -- and leave what the whole submission leaves.
       pub whole : {s : Sent} → s ≡ sent_by b.endpoint b.kept ring finished packets lengths
-          → withRecords records₁ s ≡ submit e ring finished records packets request lengths
+          → with_records records₁ s ≡ submit e ring finished records packets request lengths
       whole {s} sent =
-          ap (withRecords records₁) sent
-          ∙ ap (λ (x : Endpoint). withRecords records₁ (sent_by x b.kept ring finished packets lengths)) begun_is
-          ∙ ap (λ (v : Record). withRecords records₁ (sent_by begunNow v ring finished packets lengths)) held_is
-          ∙ ap (λ (l : List ℕ). withRecords l (sent_by begunNow held ring finished packets lengths)) written_is
-          ∙ ap (withRecords (started_records e records request lengths)) (sym (sent_is e ring finished records packets request lengths passed ring_size_lem finished_size))
+          ap (with_records records₁) sent
+          ∙ ap (λ (x : Endpoint). with_records records₁ (sent_by x b.kept ring finished packets lengths)) begun_is
+          ∙ ap (λ (v : Record). with_records records₁ (sent_by begun_now v ring finished packets lengths)) held_is
+          ∙ ap (λ (l : List ℕ). with_records l (sent_by begun_now held ring finished packets lengths)) written_is
+          ∙ ap (with_records (started_records e records request lengths)) (sym (sent_is e ring finished records packets request lengths passed ring_size_lem finished_size))
           ∙ sym (submit_acts e ring finished records packets request lengths z)

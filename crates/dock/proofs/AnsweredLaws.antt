@@ -164,42 +164,42 @@ module _ (s : State) where
   none_beside false false false (to_end v code fails size) d = absurd (d refl)
 
   module _ (id : ℕ) where
-    abbrev firstTests : List (Bool × ℕ)
-    firstTests = reclaim_tests e (length s.finished) s.records (length s.packets) id
+    abbrev first_tests : List (Bool × ℕ)
+    first_tests = reclaim_tests e (length s.finished) s.records (length s.packets) id
 
-    abbrev refusedNo : ℕ
-    refusedNo = reclaim_no e (length s.finished) s.records (length s.packets) id
+    abbrev refused_no : ℕ
+    refused_no = reclaim_no e (length s.finished) s.records (length s.packets) id
 
-    no_values : (refusedNo ≡ 0 → ⊥) → came_values (came_to s id) refusedNo ≡ []
+    no_values : (refused_no ≡ 0 → ⊥) → came_values (came_to s id) refused_no ≡ []
     unfolding reclaim_no reclaim_tests
-    no_values d = none_beside (test_at firstTests 0) (test_at firstTests 1) (test_at firstTests 2) (came_to s id) d
+    no_values d = none_beside (test_at first_tests 0) (test_at first_tests 1) (test_at first_tests 2) (came_to s id) d
 
-    all_numbered : numbered firstTests ≡ true
+    all_numbered : numbered first_tests ≡ true
     unfolding reclaim_tests
     all_numbered = refl
 
     -- A reclaim that is not refused is answered by what its id has come to.
-    pub reclaim_said : refusedNo ≡ 0 → answered s (reclaims id) ≡ said_of (came_to s id)
+    pub reclaim_said : refused_no ≡ 0 → answered s (reclaims id) ≡ said_of (came_to s id)
     unfolding came_to
     reclaim_said z =
         ap (λ (x : ReclaimedOne × List ℕ × List ℕ). reclaimed_number x.0.answer) (reclaim_acts e s.finished s.records s.packets id z)
         ∙ came_said (find_in s.records e.account.occupancy id)
 
-    reclaim_done : refusedNo ≡ 0 → answered s (reclaims id) ≡ said s (reclaims id)
+    reclaim_done : refused_no ≡ 0 → answered s (reclaims id) ≡ said s (reclaims id)
     unfolding reclaim_no
     reclaim_done z =
         reclaim_said z
-        ∙ ap (λ (n : ℕ). (n, came_values (came_to s id) n)) (sym (first_rest firstTests (came_tests (came_to s id)) all_numbered z))
+        ∙ ap (λ (n : ℕ). (n, came_values (came_to s id) n)) (sym (first_rest first_tests (came_tests (came_to s id)) all_numbered z))
 
-    reclaim_refused : (refusedNo ≡ 0 → ⊥) → answered s (reclaims id) ≡ said s (reclaims id)
+    reclaim_refused : (refused_no ≡ 0 → ⊥) → answered s (reclaims id) ≡ said s (reclaims id)
     unfolding reclaim_no
     reclaim_refused d =
         (refused_leaves s (reclaims id) d).0
-        ∙ ap (λ (l : List ℕ). (refusedNo, l)) (sym (no_values d))
-        ∙ ap (λ (n : ℕ). (n, came_values (came_to s id) n)) (sym (first_front firstTests (came_tests (came_to s id)) d))
+        ∙ ap (λ (l : List ℕ). (refused_no, l)) (sym (no_values d))
+        ∙ ap (λ (n : ℕ). (n, came_values (came_to s id) n)) (sym (first_front first_tests (came_tests (came_to s id)) d))
 
     reclaim_is : answered s (reclaims id) ≡ said s (reclaims id)
-    reclaim_is = ⊎_elim (λ (z : refusedNo ≡ 0). reclaim_done z) (λ (d : refusedNo ≡ 0 → ⊥). reclaim_refused d) (same_or_not refusedNo 0)
+    reclaim_is = ⊎_elim (λ (z : refused_no ≡ 0). reclaim_done z) (λ (d : refused_no ≡ 0 → ⊥). reclaim_refused d) (same_or_not refused_no 0)
 
 -- ---- what an id has come to, by the record that it names
 
@@ -325,19 +325,19 @@ answered_exact s c =
 
 -- Making has no state before it.
 module _ (ring finished records packets : List ℕ) (shape : Shape) (who : Identity) where
-  abbrev makingTests : List (Bool × ℕ)
-  makingTests = make_tests (length ring) (length finished) (length records) (length packets) shape who
+  abbrev making_tests : List (Bool × ℕ)
+  making_tests = make_tests (length ring) (length finished) (length records) (length packets) shape who
 
-  pub making_is : outcome_number (make ring finished records packets shape who).0.answer ≡ (first makingTests, [])
+  pub making_is : outcome_number (make ring finished records packets shape who).0.answer ≡ (first making_tests, [])
   unfolding make_no
   making_is =
       bare (make_no (length ring) (length finished) (length records) (length packets) shape who)
       (λ z. ap (λ x. outcome_number x.0.answer) (make_acts ring finished records packets shape who z))
       (λ d. (making_leaves ring finished records packets shape who d).0)
 
-  making_numbered : numbered makingTests ≡ true
+  making_numbered : numbered making_tests ≡ true
   unfolding make_tests
   making_numbered = refl
 
-  pub making_exact : Exact makingTests (outcome_number (make ring finished records packets shape who).0.answer).0
-  making_exact = subst (Exact makingTests) (sym (ap (λ (x : Numbered). x.0) making_is)) (exact makingTests making_numbered)
+  pub making_exact : Exact making_tests (outcome_number (make ring finished records packets shape who).0.answer).0
+  making_exact = subst (Exact making_tests) (sym (ap (λ (x : Numbered). x.0) making_is)) (exact making_tests making_numbered)

@@ -27,7 +27,7 @@ use Rattle.dock.specs.declared.Reclaimed.{Reclaimed}
 use Rattle.dock.specs.declared.Reclaimed.TheVariants as answer
 use Rattle.dock.specs.declared.ReclaimedOne.{ReclaimedOne}
 use Rattle.dock.specs.Worth.{Worth, bytes, refused, worth, accepted}
-use Rattle.dock.specs.Reclaim.{leave, final, complete_tests, complete_answer, complete, nothing, code_of, remaining_of, bulk_by, reclaim_bulk, Seen, onward, ends, stage_by, status_by, recorded_by, status_place, data_seen, after_stage, records_after, reclaim_control, counted, close_below, Swept, unfinished, fatal, found, swept_by, sweptAt, sweep, swept_answer, reclaim_iso, reclaim_flying, place_of}
+use Rattle.dock.specs.Reclaim.{leave, final, complete_tests, complete_answer, complete, nothing, code_of, remaining_of, bulk_by, reclaim_bulk, Seen, onward, ends, stage_by, status_by, recorded_by, status_place, data_seen, after_stage, records_after, reclaim_control, counted, close_below, Swept, unfinished, fatal, found, swept_by, swept_at, sweep, swept_answer, reclaim_iso, reclaim_flying, place_of}
 use Rattle.dock.proofs.ReachedBookLaws.{Alike, alike_same, alike_set}
 use Rattle.dock.proofs.RetireLaws.{picked}
 
@@ -203,7 +203,7 @@ module _ (slots : ℕ) (finished : List ℕ) (v : Record) (number : ℕ) where
           | false ↦ own_then number packets marked (more marked).1 put (onwards marked)
         ]
 
-    by_place : (f : Finished) → OwnPackets number packets (sweptAt slots finished v number f k packets more).1
+    by_place : (f : Finished) → OwnPackets number packets (swept_at slots finished v number f k packets more).1
     by_place place.Nothing = onwards packets
     by_place (place.Event w) = by_worth (worth (code_of w) (packet_at packets number k).requested (remaining_of w)) (code_of w)
 
@@ -216,7 +216,7 @@ module _ (slots : ℕ) (finished : List ℕ) (v : Record) (number : ℕ) where
       (λ (b : Bool).
       let s : Swept × List ℕ = elim b [
         | true ↦ sweep slots finished v number n (k + 1) packets
-        | false ↦ sweptAt slots finished v number (finished_at finished (place_of slots v.place k)) k packets (λ l. sweep slots finished v number n (k + 1) l)
+        | false ↦ swept_at slots finished v number (finished_at finished (place_of slots v.place k)) k packets (λ l. sweep slots finished v number n (k + 1) l)
       ] in
       OwnPackets number packets s.1) [
         | true ↦ rest packets

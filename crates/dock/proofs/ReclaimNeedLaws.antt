@@ -31,7 +31,7 @@ use Rattle.dock.specs.declared.Reclaimed.TheVariants as answer
 use Rattle.dock.specs.declared.ReclaimedOne.{ReclaimedOne}
 use Rattle.dock.specs.Trbs.{trb_count}
 use Rattle.dock.specs.Worth.{Worth, bytes, refused, worth, accepted}
-use Rattle.dock.specs.Reclaim.{final, complete, bulk_by, Seen, onward, ends, stage_by, status_by, recorded_by, after_stage, code_of, remaining_of, place_of, counted, close_below, Swept, found, swept_by, sweptAt, sweep, swept_answer, reclaim_iso, data_seen, data_place, status_place, reclaim_control, reclaim_bulk, bad_record, reclaim_tests, reclaim_no, reclaim_flying, reclaim_found, reclaim, nothing}
+use Rattle.dock.specs.Reclaim.{final, complete, bulk_by, Seen, onward, ends, stage_by, status_by, recorded_by, after_stage, code_of, remaining_of, place_of, counted, close_below, Swept, found, swept_by, swept_at, sweep, swept_answer, reclaim_iso, data_seen, data_place, status_place, reclaim_control, reclaim_bulk, bad_record, reclaim_tests, reclaim_no, reclaim_flying, reclaim_found, reclaim, nothing}
 use Rattle.dock.proofs.ReclaimAnswerLaws.{never_done, refused_not_done}
 use Rattle.dock.proofs.RefusalLaws.{reclaim_acts}
 use Rattle.dock.proofs.ReachedSoundLaws.{few_packets, both_false}
@@ -80,7 +80,7 @@ module _ (slots : ℕ) (finished other : List ℕ) (v : Record) (number : ℕ) w
         by_last true = refl
         by_last false = on put (put_same (counted (packet_at l number k) n))
 
-    by_place : (f : Finished) → sweptAt slots other v number f k l more' ≡ sweptAt slots finished v number f k l more
+    by_place : (f : Finished) → swept_at slots other v number f k l more' ≡ swept_at slots finished v number f k l more
     by_place place.Nothing = on l s
     by_place (place.Event w) = by_worth (worth (code_of w) (packet_at l number k).requested (remaining_of w)) (code_of w)
 
@@ -95,16 +95,16 @@ module _ (slots : ℕ) (finished other : List ℕ) (v : Record) (number : ℕ) w
       by_mark : ((m : List ℕ) → SameFrom (k + 1) m → sweep slots other v number n (k + 1) m ≡ sweep slots finished v number n (k + 1) m) → (b : Bool) → (packet_at l number k).marked ≡ b
           → let new : Swept × List ℕ = elim b [
             | true ↦ sweep slots other v number n (k + 1) l
-            | false ↦ sweptAt slots other v number (finished_at other (place_of slots v.place k)) k l (λ m. sweep slots other v number n (k + 1) m)
+            | false ↦ swept_at slots other v number (finished_at other (place_of slots v.place k)) k l (λ m. sweep slots other v number n (k + 1) m)
           ] in
           let old : Swept × List ℕ = elim b [
             | true ↦ sweep slots finished v number n (k + 1) l
-            | false ↦ sweptAt slots finished v number (finished_at finished (place_of slots v.place k)) k l (λ m. sweep slots finished v number n (k + 1) m)
+            | false ↦ swept_at slots finished v number (finished_at finished (place_of slots v.place k)) k l (λ m. sweep slots finished v number n (k + 1) m)
           ] in
           new ≡ old
       by_mark on true m = on l later
       by_mark on false m =
-          ap (λ (f : Finished). sweptAt slots other v number f k l (λ x. sweep slots other v number n (k + 1) x)) (s k (omega arith) (omega arith) m)
+          ap (λ (f : Finished). swept_at slots other v number f k l (λ x. sweep slots other v number n (k + 1) x)) (s k (omega arith) (omega arith) m)
           ∙ by_place k l (λ x. sweep slots finished v number n (k + 1) x) (λ x. sweep slots other v number n (k + 1) x) later on (finished_at finished (place_of slots v.place k))
 
 -- ---- the places that are looked at
@@ -227,18 +227,18 @@ module _ (e : Endpoint) (finished other records packets : List ℕ) (id : ℕ) (
 
 module _ (e : Endpoint) (finished records packets : List ℕ) (v : Record) (r : ℕ) where
   -- What stands in the place of TRB k.
-  abbrev pub standsAt : ℕ → Finished
-  standsAt k = finished_at finished (place_of e.shape.slots v.place k)
+  abbrev pub stands_at : ℕ → Finished
+  stands_at k = finished_at finished (place_of e.shape.slots v.place k)
 
   -- The event of the request's last TRB stands in its place,
   abbrev pub Last : Type 0
-  Last = (w : Words) × (k : ℕ) × (k + 1 ≡ trb_count v) × (standsAt k ≡ place.Event w)
+  Last = (w : Words) × (k : ℕ) × (k + 1 ≡ trb_count v) × (stands_at k ≡ place.Event w)
 
   -- or an event whose code is refused: of an earlier stage of a control request, or of a packet that is not marked.
   pub data Telling : Type 0 where
     last : Last → Telling
-    stage : (w : Words) (k : ℕ) → k + 1 < trb_count v → standsAt k ≡ place.Event w → accepted (code_of w) ≡ false → Telling
-    packet : (k : ℕ) → k < v.count → Refuses (packet_at packets r k) (standsAt k) → Telling
+    stage : (w : Words) (k : ℕ) → k + 1 < trb_count v → stands_at k ≡ place.Event w → accepted (code_of w) ≡ false → Telling
+    packet : (k : ℕ) → k < v.count → Refuses (packet_at packets r k) (stands_at k) → Telling
 
   -- What an answer tells of the events.
   pub record Over (x : ReclaimedOne) : Type 0 where
@@ -259,7 +259,7 @@ module _ (e : Endpoint) (finished records packets : List ℕ) (v : Record) (r : 
   status_by_lem place.Nothing recorded l = waits
   status_by_lem (place.Event w) recorded l = ends_last (status_by (place.Event w) e v r recorded) (l w refl)
 
-  stage_by_lem : (f : Finished) (more : ReclaimedOne) → ((w : Words) → f ≡ place.Event w → (k : ℕ) × (k + 1 < trb_count v) × (standsAt k ≡ place.Event w)) → Over more
+  stage_by_lem : (f : Finished) (more : ReclaimedOne) → ((w : Words) → f ≡ place.Event w → (k : ℕ) × (k + 1 < trb_count v) × (stands_at k ≡ place.Event w)) → Over more
       → Over (after_stage (stage_by f e v r) more)
   stage_by_lem place.Nothing more at m = m
   stage_by_lem (place.Event w) more at m =
@@ -291,11 +291,11 @@ module _ (e : Endpoint) (finished records packets : List ℕ) (v : Record) (r : 
         first_stage = subst (λ (n : ℕ). 0 + 1 < n) (sym count) (picked (λ (n : ℕ). 0 + 1 < n) (eqb v.length 0) 2 3 (λ t. omega arith) (λ t. omega arith))
 
         by_length : (b : Bool) → eqb v.length 0 ≡ b → (w : Words) → pick b place.Nothing (finished_at finished (data_place e v)) ≡ place.Event w
-            → (k : ℕ) × (k + 1 < trb_count v) × (standsAt k ≡ place.Event w)
+            → (k : ℕ) × (k + 1 < trb_count v) × (stands_at k ≡ place.Event w)
         by_length true t w here = absurd (let z : ◌≡◌ {A = ℕ} 0 1 = cc in omega arith)
         by_length false t w here = let three : trb_count v ≡ 3 = count ∙ rw t in (1, omega arith, here)
 
-        data_stage : (w : Words) → data_seen e finished v ≡ place.Event w → (k : ℕ) × (k + 1 < trb_count v) × (standsAt k ≡ place.Event w)
+        data_stage : (w : Words) → data_seen e finished v ≡ place.Event w → (k : ℕ) × (k + 1 < trb_count v) × (stands_at k ≡ place.Event w)
         data_stage = by_length (eqb v.length 0) refl
 
         last_stage : (w : Words) → finished_at finished (status_place e v) ≡ place.Event w → Last
@@ -305,7 +305,7 @@ module _ (e : Endpoint) (finished records packets : List ℕ) (v : Record) (r : 
             plus_one true = refl
             plus_one false = refl
 
-  swept_over : (upto : ℕ) (s : Swept) (l : List ℕ) → trb_count v ≡ v.count → Ending (packet_at packets r) standsAt v.count upto s → Over (swept_answer s e v r l)
+  swept_over : (upto : ℕ) (s : Swept) (l : List ℕ) → trb_count v ≡ v.count → Ending (packet_at packets r) stands_at v.count upto s → Over (swept_answer s e v r l)
   swept_over upto s l count (ran all none) = waits
   swept_over upto s l count (broke under x) =
       record { told = λ over. packet upto under x; done = λ c d. absurd (refused_not_done e v r (code_of x.0) 0 c d) }

@@ -24,7 +24,7 @@ use Rattle.packets.specs.declared.Packet.{Packet}
 use Rattle.records.specs.declared.Record.{Record}
 use Rattle.packets.proofs.PacketLaws.{packet_other}
 use Rattle.dock.specs.Worth.{Worth, bytes, refused, worth}
-use Rattle.dock.specs.Reclaim.{code_of, remaining_of, place_of, counted, close_below, Swept, unfinished, fatal, found, swept_by, sweptAt, sweep}
+use Rattle.dock.specs.Reclaim.{code_of, remaining_of, place_of, counted, close_below, Swept, unfinished, fatal, found, swept_by, swept_at, sweep}
 use Rattle.dock.proofs.ReclaimLaws.{put_long, close_own}
 
 -- ---- what a packet becomes
@@ -284,7 +284,7 @@ module _ (number : ℕ) (inside : number < record_count) where
         }
         by_worth (bytes n) is = by_last n is (eqb (k + 1) v.count) refl
 
-      by_place : (f : Finished) → seen_at k ≡ f → Tail k l (sweptAt slots finished v number f k l more)
+      by_place : (f : Finished) → seen_at k ≡ f → Tail k l (swept_at slots finished v number f k l more)
       by_place place.Nothing here =
           let t = onwards l long (λ j q z. let i : j ≡ k = omega arith in inr (ap seen_at i ∙ here)) in
           step k l l (more l) (λ j d. refl) (λ b. rw (clear, here)) (λ x. let q = x.2 in let z : ◌≡◌ {A = ℕ} 0 1 = cc in omega arith) t t.ending
@@ -308,7 +308,7 @@ module _ (number : ℕ) (inside : number < record_count) where
         by_mark : ((m : List ℕ) → Long m → Before (k + 1) m → Tail (k + 1) m (sweep slots finished v number n (k + 1) m)) → (b : Bool) → (packet_at l number k).marked ≡ b
             → Tail k l (elim b [
               | true ↦ sweep slots finished v number n (k + 1) l
-              | false ↦ sweptAt slots finished v number (seen_at k) k l (λ m. sweep slots finished v number n (k + 1) m)
+              | false ↦ swept_at slots finished v number (seen_at k) k l (λ m. sweep slots finished v number n (k + 1) m)
             ])
         by_mark rest true m =
             let t = rest l long (λ j q z. let i : j ≡ k = omega arith in inl (ap (λ (x : ℕ). (packet_at l number x).marked) i ∙ m)) in

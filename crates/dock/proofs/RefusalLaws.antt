@@ -52,21 +52,21 @@ pick_false x y q = rw q
 -- ---- making
 
 module _ (ring finished records packets : List ℕ) (shape : Shape) (who : Identity) where
-  abbrev numberOfMake : ℕ
-  numberOfMake = make_no (length ring) (length finished) (length records) (length packets) shape who
+  abbrev number_of_make : ℕ
+  number_of_make = make_no (length ring) (length finished) (length records) (length packets) shape who
 
-  pub make_exact : Exact (make_tests (length ring) (length finished) (length records) (length packets) shape who) numberOfMake
+  pub make_exact : Exact (make_tests (length ring) (length finished) (length records) (length packets) shape who) number_of_make
   unfolding make_tests make_no
   make_exact = exact (make_tests (length ring) (length finished) (length records) (length packets) shape who) refl
 
   -- A making that is refused leaves the tables, and gives back no endpoint.
-  pub make_refuses : (numberOfMake ≡ 0 → ⊥)
+  pub make_refuses : (number_of_make ≡ 0 → ⊥)
       → make ring finished records packets shape who
-      ≡ (record { answer = outcome.Refused numberOfMake; endpoint = blank }, ring, finished, records, packets)
+      ≡ (record { answer = outcome.Refused number_of_make; endpoint = blank }, ring, finished, records, packets)
   unfolding make
   make_refuses refused = declines _ _ refused
 
-  pub make_acts : numberOfMake ≡ 0
+  pub make_acts : number_of_make ≡ 0
       → make ring finished records packets shape who
       ≡ (record { answer = outcome.Done; endpoint = fresh shape who }, zeros ring, zeros finished, zeros records, zeros packets)
   unfolding make
@@ -134,19 +134,19 @@ module _ (e : Endpoint) where
 -- ---- the start of a submission
 
 module _ (e : Endpoint) (records packets : List ℕ) (request : Request) (lengths : List ℕ) where
-  abbrev numberOfStart : ℕ
-  numberOfStart = start_no e records (length packets) request lengths
+  abbrev number_of_start : ℕ
+  number_of_start = start_no e records (length packets) request lengths
 
-  pub start_exact : Exact (start_tests e records (length packets) request lengths) numberOfStart
+  pub start_exact : Exact (start_tests e records (length packets) request lengths) number_of_start
   unfolding start_tests start_no
   start_exact = exact (start_tests e records (length packets) request lengths) refl
 
-  pub start_refuses : (numberOfStart ≡ 0 → ⊥)
-      → start e records packets request lengths ≡ (record { answer = outcome.Refused numberOfStart; endpoint = e }, records, packets)
+  pub start_refuses : (number_of_start ≡ 0 → ⊥)
+      → start e records packets request lengths ≡ (record { answer = outcome.Refused number_of_start; endpoint = e }, records, packets)
   unfolding start
   start_refuses refused = declines _ _ refused
 
-  pub start_acts : numberOfStart ≡ 0
+  pub start_acts : number_of_start ≡ 0
       → start e records packets request lengths
       ≡ (
         record { answer = outcome.Done; endpoint = started_endpoint e records request lengths },
@@ -159,19 +159,19 @@ module _ (e : Endpoint) (records packets : List ℕ) (request : Request) (length
 -- ---- a store
 
 module _ (e : Endpoint) (ring finished records packets : List ℕ) where
-  abbrev numberOfStore : ℕ
-  numberOfStore = store_no e (length ring) (length finished) records (length packets)
+  abbrev number_of_store : ℕ
+  number_of_store = store_no e (length ring) (length finished) records (length packets)
 
-  pub store_exact : Exact (store_tests e (length ring) (length finished) records (length packets)) numberOfStore
+  pub store_exact : Exact (store_tests e (length ring) (length finished) records (length packets)) number_of_store
   unfolding store_tests store_no
   store_exact = exact (store_tests e (length ring) (length finished) records (length packets)) refl
 
-  pub store_refuses : (numberOfStore ≡ 0 → ⊥)
-      → store e ring finished records packets ≡ (record { answer = stored.Refused numberOfStore; endpoint = e }, ring, finished)
+  pub store_refuses : (number_of_store ≡ 0 → ⊥)
+      → store e ring finished records packets ≡ (record { answer = stored.Refused number_of_store; endpoint = e }, ring, finished)
   unfolding store
   store_refuses refused = declines _ _ refused
 
-  pub store_acts : numberOfStore ≡ 0
+  pub store_acts : number_of_store ≡ 0
       → let v = record_at records e.work.number in
       let n = next_of e v in
       let after = stepped n e v packets in
@@ -187,42 +187,42 @@ module _ (e : Endpoint) (ring finished records packets : List ℕ) where
 -- ---- the whole submission
 
 module _ (e : Endpoint) (ring finished records packets : List ℕ) (request : Request) (lengths : List ℕ) where
-  abbrev ringsFit : Bool
-  ringsFit = eqb (length ring) (ring_size e.shape.slots) && eqb (length finished) (ring_size e.shape.slots)
+  abbrev rings_fit : Bool
+  rings_fit = eqb (length ring) (ring_size e.shape.slots) && eqb (length finished) (ring_size e.shape.slots)
 
-  abbrev numberOfSubmit : ℕ
-  numberOfSubmit = submit_no e (length ring) (length finished) records (length packets) request lengths
+  abbrev number_of_submit : ℕ
+  number_of_submit = submit_no e (length ring) (length finished) records (length packets) request lengths
 
-  pub submit_exact : Exact (submit_tests e (length ring) (length finished) records (length packets) request lengths) numberOfSubmit
+  pub submit_exact : Exact (submit_tests e (length ring) (length finished) records (length packets) request lengths) number_of_submit
   unfolding submit_tests submit_no start_tests
   submit_exact = exact (submit_tests e (length ring) (length finished) records (length packets) request lengths) refl
 
   -- Where the ring and the finished table have their sizes it is the start's number, and else 1.
-  pub submit_as_start : ringsFit ≡ true → numberOfSubmit ≡ start_no e records (length packets) request lengths
+  pub submit_as_start : rings_fit ≡ true → number_of_submit ≡ start_no e records (length packets) request lengths
   unfolding submit_tests submit_no start_no
   submit_as_start fit = rw fit
 
-  pub submit_misfits : ringsFit ≡ false → numberOfSubmit ≡ 1
+  pub submit_misfits : rings_fit ≡ false → number_of_submit ≡ 1
   unfolding submit_tests submit_no
   submit_misfits off = rw off
 
   -- A number of 0 has both: the sizes, and a start that is admitted.
-  pub submit_passed : numberOfSubmit ≡ 0 → (ringsFit ≡ true) × (start_no e records (length packets) request lengths ≡ 0)
+  pub submit_passed : number_of_submit ≡ 0 → (rings_fit ≡ true) × (start_no e records (length packets) request lengths ≡ 0)
   submit_passed passed =
       ⊎_elim
-      (λ (fit : ringsFit ≡ true). (fit, sym (submit_as_start fit) ∙ passed))
-      (λ (off : ringsFit ≡ false). absurd (let one = submit_misfits off in omega arith))
-      (true_or_false ringsFit)
+      (λ (fit : rings_fit ≡ true). (fit, sym (submit_as_start fit) ∙ passed))
+      (λ (off : rings_fit ≡ false). absurd (let one = submit_misfits off in omega arith))
+      (true_or_false rings_fit)
 
   -- Any other is answered, and leaves everything.
-  pub submit_refuses : (numberOfSubmit ≡ 0 → ⊥)
+  pub submit_refuses : (number_of_submit ≡ 0 → ⊥)
       → submit e ring finished records packets request lengths
-      ≡ (record { answer = submitted.Refused numberOfSubmit; endpoint = e }, ring, finished, records, packets)
+      ≡ (record { answer = submitted.Refused number_of_submit; endpoint = e }, ring, finished, records, packets)
   unfolding submit
   submit_refuses refused = declines _ _ refused
 
   -- Where it is admitted, the stores follow the start, on the endpoint and the tables that it left.
-  pub submit_acts : numberOfSubmit ≡ 0
+  pub submit_acts : number_of_submit ≡ 0
       → let written = started_records e records request lengths in
       let asked = write_packets packets (record_taken e) request.what lengths in
       submit e ring finished records packets request lengths
@@ -312,20 +312,20 @@ module _ (e : Endpoint) (records : List ℕ) where
 -- ---- a reclaim
 
 module _ (e : Endpoint) (finished records packets : List ℕ) (id : ℕ) where
-  abbrev numberOfReclaim : ℕ
-  numberOfReclaim = reclaim_no e (length finished) records (length packets) id
+  abbrev number_of_reclaim : ℕ
+  number_of_reclaim = reclaim_no e (length finished) records (length packets) id
 
-  pub reclaim_exact : Exact (reclaim_tests e (length finished) records (length packets) id) numberOfReclaim
+  pub reclaim_exact : Exact (reclaim_tests e (length finished) records (length packets) id) number_of_reclaim
   unfolding reclaim_tests reclaim_no
   reclaim_exact = exact (reclaim_tests e (length finished) records (length packets) id) refl
 
-  pub reclaim_refuses : (numberOfReclaim ≡ 0 → ⊥)
+  pub reclaim_refuses : (number_of_reclaim ≡ 0 → ⊥)
       → reclaim e finished records packets id
-      ≡ (record { answer = reclaimed.Refused numberOfReclaim; endpoint = e }, records, packets)
+      ≡ (record { answer = reclaimed.Refused number_of_reclaim; endpoint = e }, records, packets)
   unfolding reclaim
   reclaim_refuses refused = declines _ _ refused
 
-  pub reclaim_acts : numberOfReclaim ≡ 0
+  pub reclaim_acts : number_of_reclaim ≡ 0
       → reclaim e finished records packets id ≡ reclaim_found (find_in records e.account.occupancy id) e finished records packets
   unfolding reclaim
   reclaim_acts passed = acts _ _ passed

@@ -89,13 +89,13 @@ module _ (records : List ℕ) (occupancy : Occupancy) (id : ℕ) where
       → Decides (test (find_in records occupancy id)) (OfNamed P)
   by_lookup test off on = by_found test off on (find_in records occupancy id) (find_finds record_count (held occupancy) (id_at records) id)
 
-  abbrev isFlying : Lookup → Bool
-  isFlying Nothing = false
-  isFlying (At r) = eqb (record_at records r).state in_flight
+  abbrev is_flying : Lookup → Bool
+  is_flying Nothing = false
+  is_flying (At r) = eqb (record_at records r).state in_flight
 
   by_flying : (f : Lookup) → Finds record_count named f → Decides (not_flying records f) (OfNamed (λ r. (record_at records r).state ≡ in_flight) → ⊥)
-  by_flying Nothing f = negated (by_found isFlying refl (λ r. by_eqb (record_at records r).state in_flight) Nothing f)
-  by_flying (At r) f = negated (by_found isFlying refl (λ r. by_eqb (record_at records r).state in_flight) (At r) f)
+  by_flying Nothing f = negated (by_found is_flying refl (λ r. by_eqb (record_at records r).state in_flight) Nothing f)
+  by_flying (At r) f = negated (by_found is_flying refl (λ r. by_eqb (record_at records r).state in_flight) (At r) f)
 
   -- Row 6: "cancel of an id not in flight". The record that the id names, if there is one, is not in flight.
   pub by_not_flying : Decides (not_flying records (find_in records occupancy id)) (OfNamed (λ r. (record_at records r).state ≡ in_flight) → ⊥)

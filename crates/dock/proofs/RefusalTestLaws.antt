@@ -137,15 +137,15 @@ pub record OnCourse (e : Endpoint) (records : List ℕ) : Type 0 where
   pub first : deferred (record_at records e.work.number) ≡ true → e.work.place + 1 < e.shape.slots
 
 module _ (e : Endpoint) (records : List ℕ) where
-  abbrev onCourse : Bool
-  onCourse =
+  abbrev on_course_of : Bool
+  on_course_of =
       ltb e.work.number record_count
       && flies records e.account.occupancy e.work.number
       && leb e.work.stored (trb_count (record_at records e.work.number))
       && not (is_none (next_of e (record_at records e.work.number)))
       && first_fits e (record_at records e.work.number)
 
-  by_course : Decides onCourse (OnCourse e records)
+  by_course : Decides on_course_of (OnCourse e records)
   by_course =
       let v = record_at records e.work.number in
       reworded
@@ -166,7 +166,7 @@ module _ (e : Endpoint) (records : List ℕ) where
 
   pub on_course : strays e records ≡ false → e.work.busy ≡ true → OnCourse e records
   unfolding strays
-  on_course s busy = by_course.so (held_to e.work.busy onCourse s busy)
+  on_course s busy = by_course.so (held_to e.work.busy on_course_of s busy)
 
   -- With none under way there is nothing to stray from.
   pub at_rest : e.work.busy ≡ false → strays e records ≡ false

@@ -206,9 +206,9 @@ module _ (slots : ℕ) (finished : List ℕ) (v : Record) (number : ℕ) where
       let marked = put_packet packets number k (counted (packet_at packets number k) n) in
       elim (eqb (k + 1) v.count) [ true ↦ (found code, close_below k marked number) | false ↦ more marked ]
 
-  abbrev pub sweptAt : Finished → ℕ → List ℕ → (List ℕ → Swept × List ℕ) → Swept × List ℕ
-  sweptAt place.Nothing k packets more = more packets
-  sweptAt (place.Event w) k packets more =
+  abbrev pub swept_at : Finished → ℕ → List ℕ → (List ℕ → Swept × List ℕ) → Swept × List ℕ
+  swept_at place.Nothing k packets more = more packets
+  swept_at (place.Event w) k packets more =
       swept_by (worth (code_of w) (packet_at packets number k).requested (remaining_of w)) (code_of w) k packets more
 
   -- The n packets from packet k on: one that is marked, or has no event, is passed by.
@@ -217,7 +217,7 @@ module _ (slots : ℕ) (finished : List ℕ) (v : Record) (number : ℕ) where
   sweep (suc n) k packets =
       elim (packet_at packets number k).marked [
         | true ↦ sweep n (k + 1) packets
-        | false ↦ sweptAt (finished_at finished (place_of slots v.place k)) k packets (λ l. sweep n (k + 1) l)
+        | false ↦ swept_at (finished_at finished (place_of slots v.place k)) k packets (λ l. sweep n (k + 1) l)
       ]
 
 abbrev pub swept_answer : Swept → Endpoint → Record → ℕ → List ℕ → ReclaimedOne

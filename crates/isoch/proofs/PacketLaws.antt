@@ -36,22 +36,22 @@ packet_is_lem shape s incoming size more pen ring finished {bursts} {trb} {q} {r
 
 module _ (shape : Shape) (s : Periodic) (incoming : Bool) (sizes : List ℕ) where
   -- What is left of the packets, from packet i on.
-  abbrev pub leftFrom : ℕ → Pen → List ℕ → List ℕ → Pen × List ℕ × List ℕ
-  leftFrom i pen ring finished = packets_put (length sizes - i) i shape s incoming sizes pen ring finished
+  abbrev pub left_from : ℕ → Pen → List ℕ → List ℕ → Pen × List ℕ × List ℕ
+  left_from i pen ring finished = packets_put (length sizes - i) i shape s incoming sizes pen ring finished
 
   pub packet_next : (i : ℕ) (pen : Pen) (ring finished : List ℕ) {d : Pen × List ℕ × List ℕ} → i < length sizes
       → d ≡ packet_put shape s incoming (get_or sizes i 0) (not (eqb (i + 1) (length sizes))) pen ring finished
-      → leftFrom (i + 1) d.0 d.1 d.2 ≡ leftFrom i pen ring finished
+      → left_from (i + 1) d.0 d.1 d.2 ≡ left_from i pen ring finished
   unfolding packets_put
   packet_next i pen ring finished {d} below put =
-      ap (λ (x : Pen × List ℕ × List ℕ). leftFrom (i + 1) x.0 x.1 x.2) put
+      ap (λ (x : Pen × List ℕ × List ℕ). left_from (i + 1) x.0 x.1 x.2) put
       ∙ ap (λ (n : ℕ). packets_put n i shape s incoming sizes pen ring finished) one_less
     where
       one_less : suc (length sizes - (i + 1)) ≡ length sizes - i
       one_less = omega arith
 
   pub packets_done : (i : ℕ) (pen : Pen) (ring finished : List ℕ) → length sizes ≤ i
-      → ◌≡◌ {A = Pen × List ℕ × List ℕ} (pen, ring, finished) (leftFrom i pen ring finished)
+      → ◌≡◌ {A = Pen × List ℕ × List ℕ} (pen, ring, finished) (left_from i pen ring finished)
   unfolding packets_put
   packets_done i pen ring finished past =
       ap (λ (n : ℕ). packets_put n i shape s incoming sizes pen ring finished) none
@@ -60,7 +60,7 @@ module _ (shape : Shape) (s : Periodic) (incoming : Bool) (sizes : List ℕ) whe
       none = omega arith
 
   -- At first all are left.
-  pub all_left : (pen : Pen) (ring finished : List ℕ) → leftFrom 0 pen ring finished ≡ all_put shape s incoming sizes pen ring finished
+  pub all_left : (pen : Pen) (ring finished : List ℕ) → left_from 0 pen ring finished ≡ all_put shape s incoming sizes pen ring finished
   all_left pen ring finished = ap (λ (n : ℕ). packets_put n 0 shape s incoming sizes pen ring finished) none
     where
       none : length sizes - 0 ≡ length sizes

@@ -22,7 +22,7 @@ use Rattle.finished.specs.declared.Finished.TheVariants as place
 use Rattle.packets.specs.Packets.{packet_at, put_packet}
 use Rattle.packets.specs.declared.Packet.{Packet}
 use Rattle.records.specs.declared.Record.{Record}
-use Rattle.dock.specs.Reclaim.{code_of, remaining_of, place_of, counted, close_below, Swept, fatal, found, swept_by as dockSwept, sweptAt, sweep}
+use Rattle.dock.specs.Reclaim.{code_of, remaining_of, place_of, counted, close_below, Swept, fatal, found, swept_by as dock_swept, swept_at, sweep}
 use Rattle.dock.specs.Worth.{Worth, bytes, refused, worth}
 use Rattle.dock.proofs.ReclaimNeedLaws.{first_place}
 use Rattle.dock.proofs.RetireLaws.{picked}
@@ -70,8 +70,8 @@ module _ (slots : ℕ) (finished : List ℕ) (v : Record) (number : ℕ) (inside
   abbrev open_at : ℕ → Standing
   open_at k = record { at = first + k; end = first + v.count; first = first; place = place_of slots v.place k; slots = slots; ended = is_open; code = 0 }
 
-  abbrev closingAt : ℕ → ℕ → ℕ → Standing
-  closingAt k p code = record { at = first + k; end = first + v.count; first = first; place = p; slots = slots; ended = is_found; code = code }
+  abbrev closing_at : ℕ → ℕ → ℕ → Standing
+  closing_at k p code = record { at = first + k; end = first + v.count; first = first; place = p; slots = slots; ended = is_found; code = code }
 
   -- The block's packets mirror the record's words, and those from k on are as the words say.
   record Mirror (k : ℕ) (ps : List Packet) : Type 0 where
@@ -130,7 +130,7 @@ module _ (slots : ℕ) (finished : List ℕ) (v : Record) (number : ℕ) (inside
   -- ---- closing
 
   module _ (p code : ℕ) (base : List ℕ) where
-    close_turn : (i : ℕ) (ps : List Packet) → turn_at (closingAt i p code) ps finished ≡ after (closed_of (held ps i)) (closingAt (i + 1) p code)
+    close_turn : (i : ℕ) (ps : List Packet) → turn_at (closing_at i p code) ps finished ≡ after (closed_of (held ps i)) (closing_at (i + 1) p code)
     unfolding turn_of
     close_turn i ps = let next : (first + i) + 1 ≡ first + (i + 1) = omega arith in rw next
 
@@ -164,14 +164,14 @@ module _ (slots : ℕ) (finished : List ℕ) (v : Record) (number : ℕ) (inside
 
     -- The packets from i on are closed.
     closing : (n i fuel : ℕ) (ps : List Packet) → n + i ≡ v.count → n ≤ fuel → Mirror v.count ps → words ps ≡ close_below i base number
-        → comes (turns fuel (closingAt i p code) ps finished) ≡ (found code, close_below v.count base number)
+        → comes (turns fuel (closing_at i p code) ps finished) ≡ (found code, close_below v.count base number)
     closing zero i fuel ps left enough m is =
         let done : i ≡ v.count = omega arith in
-        ap comes (turns_end (closingAt i p code) ps finished fuel (omega arith)) ∙ ap (λ (x : List ℕ). (found code, x)) (is ∙ ap (λ (k : ℕ). close_below k base number) done)
+        ap comes (turns_end (closing_at i p code) ps finished fuel (omega arith)) ∙ ap (λ (x : List ℕ). (found code, x)) (is ∙ ap (λ (k : ℕ). close_below k base number) done)
     closing (suc n) i fuel ps left enough m is =
         let q = closed_of (held ps i) in
         let s = closed_step i ps m (omega arith) in
-        ap comes (next_turn fuel (closingAt i p code) ps (omega arith) (omega arith) (after q (closingAt (i + 1) p code)) (close_turn i ps))
+        ap comes (next_turn fuel (closing_at i p code) ps (omega arith) (omega arith) (after q (closing_at (i + 1) p code)) (close_turn i ps))
         ∙ closing n (i + 1) (fuel - 1) (set ps (first + i) q) (omega arith) (omega arith) s.1 (s.0 ∙ ap (λ (x : List ℕ). closed x number i) is ∙ close_more i base number)
 
   -- ---- looking for the last packet
@@ -264,7 +264,7 @@ module _ (slots : ℕ) (finished : List ℕ) (v : Record) (number : ℕ) (inside
             credited = rw (last_is k)
 
           by_worth : (x : Worth) → worth (code_of w) p.requested (remaining_of w) ≡ x
-              → comes (turns fuel (open_at k) ps finished) ≡ dockSwept slots finished v number x (code_of w) k (words ps) more
+              → comes (turns fuel (open_at k) ps finished) ≡ dock_swept slots finished v number x (code_of w) k (words ps) more
           by_worth refused is =
               one_turn (after p (broken (open_at k) (code_of w))) (seen refused is)
               ∙ ap comes (turns_end (broken (open_at k) (code_of w)) (set ps (first + k) p) finished (fuel - 1) (omega arith))
@@ -277,12 +277,12 @@ module _ (slots : ℕ) (finished : List ℕ) (v : Record) (number : ℕ) (inside
               ∙ by_last n is (eqb (k + 1) v.count) refl
               ∙ ap end (sym read)
 
-        by_place : (g : Finished) → f ≡ g → comes (turns fuel (open_at k) ps finished) ≡ sweptAt slots finished v number g k (words ps) more
+        by_place : (g : Finished) → f ≡ g → comes (turns fuel (open_at k) ps finished) ≡ swept_at slots finished v number g k (words ps) more
         unfolding seen_of
         by_place place.Nothing here = passed (turned ∙ rw here)
         by_place (place.Event w) here =
             by_worth w here (worth (code_of w) p.requested (remaining_of w)) refl
-            ∙ ap (λ (x : Packet). dockSwept slots finished v number (worth (code_of w) x.requested (remaining_of w)) (code_of w) k (words ps) more) (sym read)
+            ∙ ap (λ (x : Packet). dock_swept slots finished v number (worth (code_of w) x.requested (remaining_of w)) (code_of w) k (words ps) more) (sym read)
 
   -- The walk from packet k on is the dock's.
   walking : (n k fuel : ℕ) (ps : List Packet) → n + k ≡ v.count → n + v.count ≤ fuel → Mirror k ps
@@ -294,7 +294,7 @@ module _ (slots : ℕ) (finished : List ℕ) (v : Record) (number : ℕ) (inside
       ∙ ap
       (λ (x : Packet). elim x.marked as (λ (b : Bool). Swept × List ℕ) [
         | true ↦ sweep slots finished v number n (k + 1) (words ps)
-        | false ↦ sweptAt slots finished v number (finished_at finished (place_of slots v.place k)) k (words ps) (λ (x : List ℕ). sweep slots finished v number n (k + 1) x)
+        | false ↦ swept_at slots finished v number (finished_at finished (place_of slots v.place k)) k (words ps) (λ (x : List ℕ). sweep slots finished v number n (k + 1) x)
       ])
       (sym (read k ps m (omega arith) fuel (omega arith)))
     where
@@ -302,7 +302,7 @@ module _ (slots : ℕ) (finished : List ℕ) (v : Record) (number : ℕ) (inside
           → (b : Bool) → (held ps k).marked ≡ b
           → let end : Swept × List ℕ = elim b [
             | true ↦ sweep slots finished v number n (k + 1) (words ps)
-            | false ↦ sweptAt slots finished v number (finished_at finished (place_of slots v.place k)) k (words ps) (λ (x : List ℕ). sweep slots finished v number n (k + 1) x)
+            | false ↦ swept_at slots finished v number (finished_at finished (place_of slots v.place k)) k (words ps) (λ (x : List ℕ). sweep slots finished v number n (k + 1) x)
           ] in
           comes (turns fuel (open_at k) ps finished) ≡ end
       by_mark rest true b = passed k ps m (omega arith) fuel (omega arith) (λ (x : List ℕ). sweep slots finished v number n (k + 1) x) rest (rw b)

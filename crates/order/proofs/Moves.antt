@@ -11,7 +11,7 @@ use lib.Dec.{eqb}
 use lib.ListN.{length, take, length-append}
 use lib.Seq.{take-append_seam, append_snoc}
 use Rattle.order.specs.Model.{Slots, Position, choose, advance, around, next, Entry, Td, Work, idle, opening, busy, State, placed, layout, Plain, Zeroed, made}
-use Rattle.order.specs.Model.{leaves, storeBy, store, moved, stepBy, step, starts, begin, free, stop, resume, MayBegin, MayFree, Move, to_begin, to_store, to_step, to_free, to_stop_lem, to_resume, act, May, Run}
+use Rattle.order.specs.Model.{leaves, store_as, store, moved, step_as, step, starts, begin, free, stop, resume, MayBegin, MayFree, Move, to_begin, to_store, to_step, to_free, to_stop_lem, to_resume, act, May, Run}
 use Rattle.order.specs.Model as Model
 use Rattle.order.proofs.Index.{pos, eqb-true, eqb-false}
 use Rattle.order.proofs.Invariant.{Good, producer_is, put_visible, hide, put_hidden, reveal, put_link, cut, consume, follow, View, waits, follows, consumes, view, at_first}
@@ -200,13 +200,13 @@ module _ {K : ℕ} {S : Slots K} where
   module _ (some_slot : 0 < K) (s : State S) where
     -- the first TRB of a deferred TD
     store_first : (i : Inv s) (first : S.Trb) (rest : List S.Trb) (link : S.Trb) → s.work ≡ opening first rest link
-        → Inv (storeBy s s.producer (opening first rest link) true)
+        → Inv (store_as s s.producer (opening first rest link) true)
     store_first i first rest link e =
         let p : Position = s.producer in
         let d : Opens S first rest link p i.hidden (length s.consumed + length i.queue) s.before = doing_of s i e in
         let f : Facts s i.C i.E i.P i.queue [] (opening first rest link) = facts s i (opening first rest link) [] e d.none_hidden tt in
         let end : i.P ≡ i.E = omega (arith, f.good.stored_end) in
-        from_facts (storeBy s p (opening first rest link) true) i.C i.E (suc i.P) i.queue (first ∷ [])
+        from_facts (store_as s p (opening first rest link) true) i.C i.E (suc i.P) i.queue (first ∷ [])
         record {
           on = f.on;
           good =
@@ -231,13 +231,13 @@ module _ {K : ℕ} {S : Slots K} where
 
     -- a TRB of a TD that is not deferred
     store_shown : (i : Inv s) (x : S.Trb) (xs : List S.Trb) (link : S.Trb) → s.work ≡ busy (x ∷ xs) link none
-        → eqb s.producer.place K ≡ false → Inv (storeBy s s.producer (busy (x ∷ xs) link none) false)
+        → eqb s.producer.place K ≡ false → Inv (store_as s s.producer (busy (x ∷ xs) link none) false)
     store_shown i x xs link e off =
         let p : Position = s.producer in
         let w : Work S = leaves (advance p) xs link none in
         let d : Shows S (x ∷ xs) link p i.hidden = doing_of s i e in
         let f : Facts s i.C i.E i.P i.queue [] (busy (x ∷ xs) link none) = facts s i (busy (x ∷ xs) link none) [] e d.none_hidden tt in
-        from_facts (storeBy s p (busy (x ∷ xs) link none) false) i.C (suc i.E) (suc i.P) (i.queue ++ x ∷ []) []
+        from_facts (store_as s p (busy (x ∷ xs) link none) false) i.C (suc i.E) (suc i.P) (i.queue ++ x ∷ []) []
         record {
           on = f.on;
           good =
@@ -255,13 +255,13 @@ module _ {K : ℕ} {S : Slots K} where
     -- a later TRB of a deferred TD
     store_hidden : (i : Inv s) (x : S.Trb) (xs : List S.Trb) (link : S.Trb) (again : Entry S)
         → s.work ≡ busy (x ∷ xs) link (some again) → eqb s.producer.place K ≡ false → Inv
-        (storeBy s s.producer (busy (x ∷ xs) link (some again)) false)
+        (store_as s s.producer (busy (x ∷ xs) link (some again)) false)
     store_hidden i x xs link again e off =
         let p : Position = s.producer in
         let d : Hides S (x ∷ xs) link again i.E i.hidden (length s.consumed + length i.queue) s.before = doing_of s i e in
         let f : Facts s i.C i.E i.P i.queue (d.first ∷ d.others) (busy (x ∷ xs) link (some again)) =
         facts s i (busy (x ∷ xs) link (some again)) (d.first ∷ d.others) e d.hidden_are tt in
-        from_facts (storeBy s p (busy (x ∷ xs) link (some again)) false) i.C i.E (suc i.P) i.queue (d.first ∷ (d.others ++ x ∷ []))
+        from_facts (store_as s p (busy (x ∷ xs) link (some again)) false) i.C i.E (suc i.P) i.queue (d.first ∷ (d.others ++ x ∷ []))
         record {
           on = f.on;
           good =
@@ -287,14 +287,14 @@ module _ {K : ℕ} {S : Slots K} where
 
     -- the first TRB of a deferred TD again
     store_again : (i : Inv s) (link : S.Trb) (again : Entry S) → s.work ≡ busy [] link (some again)
-        → eqb s.producer.place K ≡ false → Inv (storeBy s s.producer (busy [] link (some again)) false)
+        → eqb s.producer.place K ≡ false → Inv (store_as s s.producer (busy [] link (some again)) false)
     store_again i link again e off =
         let p : Position = s.producer in
         let d : Hides S [] link again i.E i.hidden (length s.consumed + length i.queue) s.before = doing_of s i e in
         let hidden : List S.Trb = d.first ∷ d.others in
         let f : Facts s i.C i.E i.P i.queue hidden (busy [] link (some again)) =
         facts s i (busy [] link (some again)) hidden e d.hidden_are tt in
-        from_facts (storeBy s p (busy [] link (some again)) false) i.C i.P i.P (i.queue ++ hidden) []
+        from_facts (store_as s p (busy [] link (some again)) false) i.C i.P i.P (i.queue ++ hidden) []
         record {
           on = f.on;
           good =
@@ -311,11 +311,11 @@ module _ {K : ℕ} {S : Slots K} where
         → s.work ≡ busy rest link again → s.producer.place ≡ K → S.is_link link ≡ true
         → Doing S (leaves (around s.producer) rest link again) (around s.producer) i.E i.hidden
         (length s.consumed + length i.queue) s.before
-        → Inv (storeBy s s.producer (busy rest link again) true)
+        → Inv (store_as s s.producer (busy rest link again) true)
     store_link i rest link again e at-link is_link_lem doing =
         let p : Position = s.producer in
         let f : Facts s i.C i.E i.P i.queue i.hidden (busy rest link again) = facts s i (busy rest link again) i.hidden e refl tt in
-        from_facts (storeBy s p (busy rest link again) true) i.C i.E i.P i.queue i.hidden
+        from_facts (store_as s p (busy rest link again) true) i.C i.E i.P i.queue i.hidden
         record {
           on = f.on;
           good = put_link S some_slot s.ring s.controller i.C i.E i.P i.queue p i.hidden f.good at-link link is_link_lem;
@@ -325,7 +325,7 @@ module _ {K : ℕ} {S : Slots K} where
         }
         doing
 
-    store_by : (i : Inv s) (w : Work S) (b : Bool) → s.work ≡ w → eqb s.producer.place K ≡ b → Inv (storeBy s s.producer w b)
+    store_by : (i : Inv s) (w : Work S) (b : Bool) → s.work ≡ w → eqb s.producer.place K ≡ b → Inv (store_as s s.producer w b)
     store_by i idle b e k = i
     store_by i (opening first rest link) b e k = store_first i first rest link e
     store_by i (busy rest link none) true e k =
@@ -373,7 +373,7 @@ module _ {K : ℕ} {S : Slots K} where
 
   read_step : (s : State S) (same link : Bool) → s.live ≡ true
       → beq (S.cycle_of (S.read s.ring s.controller.place)) s.controller.cycle ≡ same
-      → S.is_link (S.read s.ring s.controller.place) ≡ link → step s ≡ stepBy s s.controller
+      → S.is_link (S.read s.ring s.controller.place) ≡ link → step s ≡ step_as s s.controller
       (S.read s.ring s.controller.place) same link
   unfolding step
   read_step s same link on e k = rw (on, e, k)

@@ -9,7 +9,7 @@ use Prim.Native.Nat.{ℕ, zero, suc, ◌+◌, ◌≤◌, ◌<◌}
 use native.Mathlib.Omega.{arith}
 use lib.Dec.{eqb, leb, leb→le, le→leb}
 use lib.ListN.{length}
-use Rattle.order.specs.Model.{Slots, Position, choose, advance, around, Entry, Td, Work, idle, opening, busy, State, leaves, storeBy, store, starts, begin}
+use Rattle.order.specs.Model.{Slots, Position, choose, advance, around, Entry, Td, Work, idle, opening, busy, State, leaves, store_as, store, starts, begin}
 use Rattle.order.proofs.Index.{eqb-true, eqb-false, T_true, not_T_false}
 use Rattle.order.proofs.Moves.{Inv, Busy, doing_of, store_keeps, facts}
 
@@ -29,26 +29,26 @@ again_due (some e) = 1
 
 module _ {K : ℕ} {S : Slots K} where
   -- the stores that the TD under way has yet to make, with the producer at p
-  abbrev pub leftBy : Position → Work S → ℕ
-  leftBy p idle = 0
-  leftBy p (opening first rest link) = suc (length rest + link_due K (suc p.place) (length rest) + 1)
-  leftBy p (busy rest link again) = length rest + link_due K p.place (length rest) + again_due again
+  abbrev pub left_by : Position → Work S → ℕ
+  left_by p idle = 0
+  left_by p (opening first rest link) = suc (length rest + link_due K (suc p.place) (length rest) + 1)
+  left_by p (busy rest link again) = length rest + link_due K p.place (length rest) + again_due again
 
-  unfoldable pub stores-left : State S → ℕ
-  stores-left s = leftBy s.producer s.work
+  unfoldable pub stores_left : State S → ℕ
+  stores_left s = left_by s.producer s.work
 
   unfoldable pub stores : ℕ → State S → State S
   stores zero s = s
   stores (suc n) s = stores n (store s)
 
 module _ {K : ℕ} (S : Slots K) where
-  left_due : (p : Position) (link : S.Trb) → p.place ≤ K → (b : Bool) → eqb p.place K ≡ b → leftBy {S =
+  left_due : (p : Position) (link : S.Trb) → p.place ≤ K → (b : Bool) → eqb p.place K ≡ b → left_by {S =
       S} p (choose b (busy [] link none) idle) ≡ 0 + link_due K p.place 0 + 0
   left_due p link h true e = refl
   left_due p link h false e = omega (arith, eqb-false p.place K e, due_no K p.place 0 (omega (arith, eqb-false p.place K e)))
 
   left_leaves : (p : Position) (rest : List S.Trb) (link : S.Trb) (again : Option (Entry S)) → p.place ≤ K
-      → leftBy {S = S} p (leaves p rest link again) ≡ length rest + link_due K p.place (length rest) + again_due again
+      → left_by {S = S} p (leaves p rest link again) ≡ length rest + link_due K p.place (length rest) + again_due again
   left_leaves p [] link none h = left_due p link h (eqb p.place K) refl
   left_leaves p [] link (some e) h = refl
   left_leaves p (x ∷ xs) link again h = refl
@@ -60,7 +60,7 @@ module _ {K : ℕ} {S : Slots K} where
     few rest link again e = omega (arith, (facts s i (busy rest link again) i.hidden e refl tt).covered, i.room)
 
     counts_by : (w : Work S) (b : Bool) → s.work ≡ w → eqb s.producer.place K ≡ b → Busy w
-        → suc (leftBy (storeBy s s.producer w b).producer (storeBy s s.producer w b).work) ≡ leftBy s.producer w
+        → suc (left_by (store_as s s.producer w b).producer (store_as s s.producer w b).work) ≡ left_by s.producer w
     counts_by idle b e k t = absurd t
     counts_by (opening first rest link) b e k t = refl
     counts_by (busy rest link again) true e k t =
@@ -82,8 +82,8 @@ module _ {K : ℕ} {S : Slots K} where
         omega (arith, due_no K p.place 0 (omega (arith, i.good.producer_in, eqb-false p.place K k)))
     counts_by (busy [] link none) false e k t = absurd (eqb-false s.producer.place K k ((doing_of s i e).due refl))
 
-    pub store_counts : Busy s.work → suc (stores-left (store s)) ≡ stores-left s
-    unfolding stores-left store
+    pub store_counts : Busy s.work → suc (stores_left (store s)) ≡ stores_left s
+    unfolding stores_left store
     store_counts t = counts_by s.work (eqb s.producer.place K) refl refl t
 
   still_busy : (w : Work S) → (Busy w → ⊥) → w ≡ idle
@@ -100,27 +100,27 @@ module _ {K : ℕ} {S : Slots K} where
   unfolding store
   idle_store s e = rw e
 
-  idle_left : (s : State S) → s.work ≡ idle → {n : ℕ} → stores-left s ≤ n
-  unfolding stores-left
+  idle_left : (s : State S) → s.work ≡ idle → {n : ℕ} → stores_left s ≤ n
+  unfolding stores_left
   idle_left s e = rw e (omega arith)
 
   -- a TD that is begun at place i takes this many stores
-  abbrev pub stores-of : Td S → ℕ → ℕ
-  stores-of td i = suc (length td.rest) + link_due K i (suc (length td.rest)) + choose td.deferred 1 0
+  abbrev pub stores_of : Td S → ℕ → ℕ
+  stores_of td i = suc (length td.rest) + link_due K i (suc (length td.rest)) + choose td.deferred 1 0
 
   starts_counts : (td : Td S) (p : Position) (b : Bool)
-      → leftBy p (starts td b) ≡ suc (length td.rest) + link_due K p.place (suc (length td.rest)) + choose b 1 0
+      → left_by p (starts td b) ≡ suc (length td.rest) + link_due K p.place (suc (length td.rest)) + choose b 1 0
   starts_counts td p true =
       let same : link_due K (suc p.place) (length td.rest) ≡ link_due K p.place (suc (length td.rest)) =
       ap (λ (n : ℕ). choose (leb K n) 1 0) (omega arith) in
       omega arith
   starts_counts td p false = refl
 
-  pub begin_counts : (s : State S) (td : Td S) → stores-left (begin s td) ≡ stores-of td s.producer.place
-  unfolding stores-left begin
+  pub begin_counts : (s : State S) (td : Td S) → stores_left (begin s td) ≡ stores_of td s.producer.place
+  unfolding stores_left begin
   begin_counts s td = starts_counts td s.producer td.deferred
 
-  pub finishes : 0 < K → (n : ℕ) (s : State S) → Inv s → stores-left s ≤ n → (stores n s).work ≡ idle
+  pub finishes : 0 < K → (n : ℕ) (s : State S) → Inv s → stores_left s ≤ n → (stores n s).work ≡ idle
   unfolding stores
   finishes some_slot zero s i h =
       elim (busy_or_idle s.work) [ yes t ↦ absurd (omega (arith, store_counts s i t)) | no f ↦ still_busy s.work f ]

@@ -219,32 +219,32 @@ module _ {K : ℕ} {S : Slots K} where
   leaves p (x ∷ xs) link again = busy (x ∷ xs) link again
 
   -- by what is left, and whether the producer, at p, stands at the link's slot
-  abbrev pub storeBy : State S → Position → Work S → Bool → State S
-  storeBy s p idle at-link = s
-  storeBy s p (opening first rest link) at-link =
+  abbrev pub store_as : State S → Position → Work S → Bool → State S
+  store_as s p idle at-link = s
+  store_as s p (opening first rest link) at-link =
       put s p.place (S.with_cycle (not p.cycle) first) (advance p) (busy rest link (some (placed S p first)))
-  storeBy s p (busy rest link again) true = put s K (S.with_cycle p.cycle link) (around p) (leaves (around p) rest link again)
-  storeBy s p (busy (x ∷ xs) link again) false = put s p.place (S.with_cycle p.cycle x) (advance p) (leaves (advance p) xs link again)
-  storeBy s p (busy [] link (some e)) false = put s e.at e.trb p idle
-  storeBy s p (busy [] link none) false = s
+  store_as s p (busy rest link again) true = put s K (S.with_cycle p.cycle link) (around p) (leaves (around p) rest link again)
+  store_as s p (busy (x ∷ xs) link again) false = put s p.place (S.with_cycle p.cycle x) (advance p) (leaves (advance p) xs link again)
+  store_as s p (busy [] link (some e)) false = put s e.at e.trb p idle
+  store_as s p (busy [] link none) false = s
 
   unfoldable pub store : State S → State S
-  store s = storeBy s s.producer s.work (eqb s.producer.place K)
+  store s = store_as s s.producer s.work (eqb s.producer.place K)
 
   -- STEP, of the controller. At c it has read t, which has its own cycle bit or not, and is a link or not
-  abbrev pub stepBy : State S → Position → S.Trb → Bool → Bool → State S
-  stepBy s c t false link = s
-  stepBy s c t true true = moved s (around c) s.consumed
-  stepBy s c t true false = moved s (advance c) (s.consumed ++ record { at = c.place; trb = t } ∷ [])
+  abbrev pub step_as : State S → Position → S.Trb → Bool → Bool → State S
+  step_as s c t false link = s
+  step_as s c t true true = moved s (around c) s.consumed
+  step_as s c t true false = moved s (advance c) (s.consumed ++ record { at = c.place; trb = t } ∷ [])
 
-  abbrev pub stepLive : State S → Bool → State S
-  stepLive s false = s
-  stepLive s true =
+  abbrev pub step_live : State S → Bool → State S
+  step_live s false = s
+  step_live s true =
       let t = S.read s.ring s.controller.place in
-      stepBy s s.controller t (beq (S.cycle_of t) s.controller.cycle) (S.is_link t)
+      step_as s s.controller t (beq (S.cycle_of t) s.controller.cycle) (S.is_link t)
 
   unfoldable pub step : State S → State S
-  step s = stepLive s s.live
+  step s = step_live s s.live
 
   -- FREE n TRBs: they leave flight
   unfoldable pub free : State S → ℕ → State S

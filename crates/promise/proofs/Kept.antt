@@ -82,12 +82,12 @@ abbrev pub link_words : Endpoint → Record → Words
 link_words e v = bare (link_for e v)
 
 module _ (K : ℕ) (e : Endpoint) (records packets : List ℕ) where
-  abbrev pub inWork : Record
-  inWork = record_at records e.work.number
+  abbrev pub in_work : Record
+  in_work = record_at records e.work.number
 
   -- The words of the TRBs that are still to be stored.
   abbrev pub left : List Words
-  left = bared (upcoming (trb_count inWork - e.work.stored) e inWork packets)
+  left = bared (upcoming (trb_count in_work - e.work.stored) e in_work packets)
 
   -- The place and the cycle that are kept for the first TRB.
   abbrev pub first_at : model.Position
@@ -102,30 +102,30 @@ module _ (K : ℕ) (e : Endpoint) (records packets : List ℕ) where
     -- A deferred TD of which nothing is stored. `mark` is the number of its first TRB.
     pub record Opens : Type 0 where
       pub taken : e.work.busy ≡ true
-      pub late : deferred inWork ≡ true
+      pub late : deferred in_work ≡ true
       pub none_stored : e.work.stored ≡ 0
       pub at_first : first_at ≡ position_of e.at
       pub head : Words
       pub others : List Words
       pub left_are : left ≡ head ∷ others
       pub marked : before ≡ mark
-      pub is : work ≡ opening head others (link_words e inWork)
+      pub is : work ≡ opening head others (link_words e in_work)
 
     -- A TD that is not deferred: each TRB stored is the controller's at once.
     pub record Shows : Type 0 where
       pub taken : e.work.busy ≡ true
-      pub early : deferred inWork ≡ false
-      pub counted : e.work.stored ≤ trb_count inWork
-      pub is : work ≡ busy left (link_words e inWork) none
+      pub early : deferred in_work ≡ false
+      pub counted : e.work.stored ≤ trb_count in_work
+      pub is : work ≡ busy left (link_words e in_work) none
 
     -- A deferred TD of which a TRB is stored: none is the controller's before the first is stored again.
     pub record Hides : Type 0 where
       pub taken : e.work.busy ≡ true
-      pub late : deferred inWork ≡ true
+      pub late : deferred in_work ≡ true
       pub some_stored : 0 < e.work.stored
-      pub counted : e.work.stored ≤ trb_count inWork
+      pub counted : e.work.stored ≤ trb_count in_work
       pub marked : before ≡ mark
-      pub is : work ≡ busy left (link_words e inWork) (some (placed (flat K) first_at (bare (first_trb e inWork packets))))
+      pub is : work ≡ busy left (link_words e in_work) (some (placed (flat K) first_at (bare (first_trb e in_work packets))))
 
     pub data Under : Type 0 where
       rests : Rests → Under

@@ -20,7 +20,7 @@ use Rattle.sizes.specs.Sizes.{control, bulk, interrupt, isoch}
 use Rattle.records.specs.declared.Record.{Record}
 use Rattle.dock.specs.declared.Endpoint.{Endpoint}
 use Rattle.dock.specs.declared.ReclaimedOne.{ReclaimedOne}
-use Rattle.dock.specs.Reclaim.{nothing, code_of, remaining_of, place_of, bulk_by, reclaim_bulk, onward, stage_by, status_by, recorded_by, status_place, data_place, data_seen, reclaim_control, counted, close_below, Swept, unfinished, found, swept_by, sweptAt, sweep, swept_answer, reclaim_iso, reclaim_flying}
+use Rattle.dock.specs.Reclaim.{nothing, code_of, remaining_of, place_of, bulk_by, reclaim_bulk, onward, stage_by, status_by, recorded_by, status_place, data_place, data_seen, reclaim_control, counted, close_below, Swept, unfinished, found, swept_by, swept_at, sweep, swept_answer, reclaim_iso, reclaim_flying}
 use Rattle.dock.specs.Worth.{accepted, counts, bytes}
 use Rattle.dock.proofs.ReclaimAnswerLaws.{worth_counts}
 use Rattle.dock.proofs.RetireLaws.{picked}
@@ -125,7 +125,7 @@ module _ (K : ℕ) (some_place : 0 < K) (e : Endpoint) (shape : e.shape.slots �
         ] refl
 
     by_place : (f : Finished) → finished_at finished (place_of e.shape.slots v.place k) ≡ f
-        → Walked (sweptAt e.shape.slots finished v number f k packets more)
+        → Walked (swept_at e.shape.slots finished v number f k packets more)
     by_place place.Nothing said = onwards packets
     by_place (place.Event event) said =
         let asked = (packet_at packets number k).requested in
@@ -141,7 +141,7 @@ module _ (K : ℕ) (some_place : 0 < K) (e : Endpoint) (shape : e.shape.slots �
       (λ (b : Bool).
       let s : Swept × List ℕ = elim b [
         | true ↦ sweep e.shape.slots finished v number n (k + 1) packets
-        | false ↦ sweptAt e.shape.slots finished v number (finished_at finished (place_of e.shape.slots v.place k)) k packets (λ l. sweep e.shape.slots finished v number n (k + 1) l)
+        | false ↦ swept_at e.shape.slots finished v number (finished_at finished (place_of e.shape.slots v.place k)) k packets (λ l. sweep e.shape.slots finished v number n (k + 1) l)
       ] in
       Walked s) [
         | true ↦ walked n (k + 1) packets

@@ -153,8 +153,8 @@ cons_of [] h = absurd (omega arith)
 cons_of (t ∷ ts) h = (t, (ts, refl))
 
 module _ (K : ℕ) (e : Endpoint) (v : Record) (t : Trb) (ts : List Trb) where
-  abbrev tdOf : Td (flat K)
-  tdOf = record { first = bare t; rest = bared ts; link = link_words e v; deferred = deferred v }
+  abbrev td_of : Td (flat K)
+  td_of = record { first = bare t; rest = bared ts; link = link_words e v; deferred = deferred v }
 
 -- What is under way after a start: a deferred TD opens; of any other the first TRB will be the controller's at once.
 module _ (K : ℕ) (e : Endpoint) (records packets : List ℕ) (mark before : ℕ) (t : Trb) (ts : List Trb)
@@ -163,7 +163,7 @@ module _ (K : ℕ) (e : Endpoint) (records packets : List ℕ) (mark before : �
   abbrev v : Record
   v = record_at records e.work.number
 
-  under_by : (late : Bool) → deferred v ≡ late → Under K e records packets mark before (starts (tdOf K e v t ts) late)
+  under_by : (late : Bool) → deferred v ≡ late → Under K e records packets mark before (starts (td_of K e v t ts) late)
   under_by true late =
       opens (record {
         taken = taken;
@@ -179,7 +179,7 @@ module _ (K : ℕ) (e : Endpoint) (records packets : List ℕ) (mark before : �
   under_by false early =
       shows (record { taken = taken; early = early; counted = omega arith; is = ap (λ (l : List Words). busy l (link_words e v) none) (sym are) })
 
-  under_way_lem : Under K e records packets mark before (starts (tdOf K e v t ts) (deferred v))
+  under_way_lem : Under K e records packets mark before (starts (td_of K e v t ts) (deferred v))
   under_way_lem = under_by (deferred v) refl
 
 -- ---- an admitted start
@@ -250,7 +250,7 @@ module _ (w : World) (request : Request) (lengths : List ℕ) (h : Sound w.dock)
   started_with t ts are =
       let K = k.K in
       let m = model_in K w k.before k.work in
-      let td = tdOf K begun_with kept t ts in
+      let td = td_of K begun_with kept t ts in
       let total = length w.trbs in
       let count : length trbs ≡ required request (length lengths) = trbs_count w.asked.settings request lengths in
       let count-t : length trbs ≡ suc (length ts) = ap length are in

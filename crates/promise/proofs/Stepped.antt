@@ -36,7 +36,7 @@ module _ (K : ℕ) (w : World) (before : ℕ) (work : model.Work (flat K)) where
   }
 
   by_tests : (t : Words) (mine link : Bool)
-      → model.stepBy (model_in K w before work) (pointer_of w.controller) t mine link
+      → model.step_as (model_in K w before work) (pointer_of w.controller) t mine link
       ≡ model_in K (after (pick mine (pick link follows (consumes t)) waits)) before work
   by_tests t false link = refl
   by_tests t true true = refl

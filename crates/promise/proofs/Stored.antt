@@ -126,7 +126,7 @@ module _ (w : World) (h : Sound w.dock) (k : Kept w) where
 
   -- The model's store, by what is left and by whether the producer is at the link.
   store_by : (work : model.Work (flat k.K)) (b : Bool) → k.work ≡ work → eqb e.at.place k.K ≡ b
-      → model.store m ≡ model.storeBy m (position_of e.at) work b
+      → model.store m ≡ model.store_as m (position_of e.at) work b
   unfolding model.store
   store_by work b p q = rw (p, q)
 
@@ -276,31 +276,31 @@ module _ (w : World) (h : Sound w.dock) (k : Kept w) where
   leaves_again p (x ∷ xs) a = refl
 
   -- The link and the first TRB, which is to be stored again, are the same behind a store.
-  abbrev busyWith : List Words → Trb → Option (model.Entry (flat k.K)) → model.Work (flat k.K)
-  busyWith l t again = model.busy l (bare t) again
+  abbrev busy_with : List Words → Trb → Option (model.Entry (flat k.K)) → model.Work (flat k.K)
+  busy_with l t again = model.busy l (bare t) again
 
-  same_link : (n : Next) (l : List Words) → busyWith l (link_for e v) none ≡ busyWith l (link_for (stepped n e v packets) v) none
-  same_link n l = ap (λ (t : Trb). busyWith l t none) (sym (link_kept n e v packets))
+  same_link : (n : Next) (l : List Words) → busy_with l (link_for e v) none ≡ busy_with l (link_for (stepped n e v packets) v) none
+  same_link n l = ap (λ (t : Trb). busy_with l t none) (sym (link_kept n e v packets))
 
-  abbrev againAt : ℕ → Bool → Trb → model.Entry (flat k.K)
-  againAt place cycle t = model.placed (flat k.K) (record { place = place; cycle = cycle }) (bare t)
+  abbrev again_at : ℕ → Bool → Trb → model.Entry (flat k.K)
+  again_at place cycle t = model.placed (flat k.K) (record { place = place; cycle = cycle }) (bare t)
 
-  abbrev againOf : Endpoint → model.Entry (flat k.K)
-  againOf x = againAt x.work.place x.work.cycle (first_trb x v packets)
+  abbrev again_of : Endpoint → model.Entry (flat k.K)
+  again_of x = again_at x.work.place x.work.cycle (first_trb x v packets)
 
   abbrev again : model.Entry (flat k.K)
-  again = againOf e
+  again = again_of e
 
-  again_kept : (n : Next) → deferred v ≡ true → again ≡ againOf (stepped n e v packets)
+  again_kept : (n : Next) → deferred v ≡ true → again ≡ again_of (stepped n e v packets)
   again_kept n late =
       let s = step_works n e v packets in
-      ap (againAt e.work.place e.work.cycle) (first_same e (stepped n e v packets) v packets packets late)
-      ∙ ap₂ (λ (place : ℕ) (cycle : Bool). againAt place cycle (first_trb (stepped n e v packets) v packets)) (sym s.place) (sym s.cycle)
+      ap (again_at e.work.place e.work.cycle) (first_same e (stepped n e v packets) v packets packets late)
+      ∙ ap₂ (λ (place : ℕ) (cycle : Bool). again_at place cycle (first_trb (stepped n e v packets) v packets)) (sym s.place) (sym s.cycle)
 
   same_again : (n : Next) → deferred v ≡ true → (l : List Words)
-      → busyWith l (link_for e v) (some again) ≡ busyWith l (link_for (stepped n e v packets) v) (some (againOf (stepped n e v packets)))
+      → busy_with l (link_for e v) (some again) ≡ busy_with l (link_for (stepped n e v packets) v) (some (again_of (stepped n e v packets)))
   same_again n late l =
-      ap₂ (λ (t : Trb) (a : model.Entry (flat k.K)). busyWith l t (some a)) (sym (link_kept n e v packets)) (again_kept n late)
+      ap₂ (λ (t : Trb) (a : model.Entry (flat k.K)). busy_with l t (some a)) (sym (link_kept n e v packets)) (again_kept n late)
 
   -- Where nothing is, the link is due at L-1, and else nothing is.
   leaves_none : (p : model.Position) → (p.place ≡ k.K → ⊥) → model.leaves {S = flat k.K} p [] link none ≡ model.idle

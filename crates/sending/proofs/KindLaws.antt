@@ -48,8 +48,8 @@ module _ (e : Endpoint) (v : Record) (ring finished : List ℕ) where
     unfolding sent_by
     sent_plain {d} {all} kind put is = rw (is, ne_eqb v.kind isoch kind) (ap closing put)
 
-    abbrev closingAll : List ℕ → Pen × List ℕ × List ℕ → StoredAll × List ℕ × List ℕ × List ℕ
-    closingAll packets₁ x = (ended e v.id x.0.at x.0.frame, x.1, x.2, packets₁)
+    abbrev closing_all : List ℕ → Pen × List ℕ × List ℕ → StoredAll × List ℕ × List ℕ × List ℕ
+    closing_all packets₁ x = (ended e v.id x.0.at x.0.frame, x.1, x.2, packets₁)
 
     pub isoch_is : {d : Pen × List ℕ × List ℕ} {packets₁ : List ℕ} {all : StoredAll}
         → d ≡ all_put e.shape e.periodic v.incoming (at_least_one lengths) (pen_of e) ring finished
@@ -57,4 +57,4 @@ module _ (e : Endpoint) (v : Record) (ring finished : List ℕ) where
         → all ≡ ended e v.id d.0.at d.0.frame
         → ◌≡◌ {A = StoredAll × List ℕ × List ℕ × List ℕ} (all, d.1, d.2, packets₁) (sent_isoch e v ring finished packets (at_least_one lengths))
     unfolding sent_isoch
-    isoch_is {d} {packets₁} {all} put written is = rw (is, written) (ap (closingAll (paste packets (packet_count * e.work.number) (at_least_one lengths) (length (at_least_one lengths)))) put)
+    isoch_is {d} {packets₁} {all} put written is = rw (is, written) (ap (closing_all (paste packets (packet_count * e.work.number) (at_least_one lengths) (length (at_least_one lengths)))) put)

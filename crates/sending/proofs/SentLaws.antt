@@ -102,11 +102,11 @@ module _ (e : Endpoint) (v : Record) (asked ring finished : List ℕ) where
   abbrev staged : ℕ → Position × List ℕ × List ℕ → Endpoint × List ℕ × List ℕ
   staged k s = (with_store e s.0 e.periodic.frame (with_stored e.work k e.work.address), s.1, s.2)
 
-  abbrev hiddenFirst : Position × List ℕ × List ℕ
-  hiddenFirst = put_trb e.shape (chained e v) e.at (first_of v) (Onward true) ring finished
+  abbrev hidden_first : Position × List ℕ × List ℕ
+  hidden_first = put_trb e.shape (chained e v) e.at (first_of v) (Onward true) ring finished
 
   abbrev Staged : ℕ → Type 0
-  Staged n = strides n e v asked ring finished ≡ staged n (stages_put e.shape (chained e v) v hiddenFirst)
+  Staged n = strides n e v asked ring finished ≡ staged n (stages_put e.shape (chained e v) v hidden_first)
 
   -- Without data they are two, setup and status,
   two_strides : e.work.stored ≡ 0 → deferred v ≡ true → v.length ≡ 0 → Staged 2
@@ -135,12 +135,12 @@ module _ (e : Endpoint) (records packets : List ℕ) (lengths ring finished : Li
   Sent = StoredAll × List ℕ × List ℕ × List ℕ
 
   -- Ring and finished table behind the stores, with the packets written.
-  abbrev pub joinedBy : Request → Whole → Sent
-  joinedBy request w = (w.0, w.1, w.2, asked request)
+  abbrev pub joined_by : Request → Whole → Sent
+  joined_by request w = (w.0, w.1, w.2, asked request)
 
   abbrev Alike : Request → Type 0
   Alike request =
-      joinedBy request (closed (kept request) (asked request) (strides (required request (length lengths)) (begun_with request) (kept request) (asked request) ring finished))
+      joined_by request (closed (kept request) (asked request) (strides (required request (length lengths)) (begun_with request) (kept request) (asked request) ring finished))
       ≡ sent_by (begun_with request) (kept request) ring finished packets lengths
 
   bulk_alike : (incoming : Bool) (given : Request) → Alike (with_what given (Bulk incoming))
@@ -163,8 +163,8 @@ module _ (e : Endpoint) (records packets : List ℕ) (lengths ring finished : Li
     staged_alike : (n : ℕ) → required c (length lengths) ≡ n → Staged (begun_with c) (kept c) (asked c) ring finished n → Alike c
     unfolding started_endpoint write_packets closed trb_of deferred first_of sent_by plain_put deferred_put
     staged_alike n many stages =
-        ap (λ (m : ℕ). joinedBy c (closed (kept c) (asked c) (strides m (begun_with c) (kept c) (asked c) ring finished))) many
-        ∙ ap (λ (x : Endpoint × List ℕ × List ℕ). joinedBy c (closed (kept c) (asked c) x)) stages
+        ap (λ (m : ℕ). joined_by c (closed (kept c) (asked c) (strides m (begun_with c) (kept c) (asked c) ring finished))) many
+        ∙ ap (λ (x : Endpoint × List ℕ × List ℕ). joined_by c (closed (kept c) (asked c) x)) stages
 
     control_alike : Alike c
     unfolding started_endpoint
@@ -196,9 +196,9 @@ module _ (e : Endpoint) (records packets : List ℕ) (lengths ring finished : Li
     isoch_alike : Alike q
     unfolding started_endpoint write_packets closed deferred sent_by sent_isoch
     isoch_alike =
-        ap (λ (n : ℕ). joinedBy q (closed (kept q) (asked q) (strides n b (kept q) (asked q) ring finished)))
+        ap (λ (n : ℕ). joined_by q (closed (kept q) (asked q) (strides n b (kept q) (asked q) ring finished)))
         (sym (count_is q lengths (id_taken e records) e.at.place short) ∙ counted)
-        ∙ ap (λ (x : Endpoint × List ℕ × List ℕ). joinedBy q (closed (kept q) (asked q) x))
+        ∙ ap (λ (x : Endpoint × List ℕ × List ℕ). joined_by q (closed (kept q) (asked q) x))
         (packets_stride b (kept q) (asked q) (at_least_one lengths) refl counted asks (length (at_least_one lengths)) 0 (pen_of b) ring finished (omega arith))
 
   alike : (what : What) (given : Request) → length packets ≡ packets_size → record_taken e < record_count → too_long what given.length lengths ≡ false
@@ -213,35 +213,35 @@ module _ (e : Endpoint) (records packets : List ℕ) (lengths ring finished : Li
 module _ (e : Endpoint) (ring finished records packets : List ℕ) (request : Request) (lengths : List ℕ)
     (passed : start_no e records (length packets) request lengths ≡ 0)
     (ring_size_lem : length ring ≡ ring_size e.shape.slots) (finished_size : length finished ≡ ring_size e.shape.slots) where
-  abbrev begunNow : Endpoint
-  begunNow = started_endpoint e records request lengths
+  abbrev begun_now : Endpoint
+  begun_now = started_endpoint e records request lengths
 
   abbrev written : List ℕ
   written = started_records e records request lengths
 
-  abbrev askedNow : List ℕ
-  askedNow = write_packets packets (record_taken e) request.what lengths
+  abbrev asked_now : List ℕ
+  asked_now = write_packets packets (record_taken e) request.what lengths
 
   abbrev held : Record
   held = record_for request (length lengths) (id_taken e records) e.at.place
 
   abbrev stridden : ℕ → Record → Whole
-  stridden n v = closed v askedNow (strides n begunNow v askedNow ring finished)
+  stridden n v = closed v asked_now (strides n begun_now v asked_now ring finished)
 
-  same_record : record_at written begunNow.work.number ≡ held
+  same_record : record_at written begun_now.work.number ≡ held
   unfolding started_endpoint
   same_record = record_written e records packets request lengths passed
 
   -- The strides of the submission, within some number of stores.
-  ends : Ends written askedNow begunNow ring finished (stridden (required request (length lengths)) held)
+  ends : Ends written asked_now begun_now ring finished (stridden (required request (length lengths)) held)
   unfolding started_endpoint
   ends =
       let count = started_count e ring finished records packets request lengths passed ring_size_lem finished_size in
       let some = required_some request.what request.length (length lengths) in
       let whole : suc (required request (length lengths) - 1) ≡ required request (length lengths) = omega arith in
-      subst (λ (v : Record). Ends written askedNow begunNow ring finished (stridden (required request (length lengths)) v)) same_record
-      (subst (λ (n : ℕ). Ends written askedNow begunNow ring finished (stridden n (record_at written begunNow.work.number))) whole
-      (strides_end written askedNow (required request (length lengths) - 1) begunNow ring finished
+      subst (λ (v : Record). Ends written asked_now begun_now ring finished (stridden (required request (length lengths)) v)) same_record
+      (subst (λ (n : ℕ). Ends written asked_now begun_now ring finished (stridden n (record_at written begun_now.work.number))) whole
+      (strides_end written asked_now (required request (length lengths) - 1) begun_now ring finished
       (started_storing e ring finished records packets request lengths passed ring_size_lem finished_size)
       (started_next e ring finished records packets request lengths passed ring_size_lem finished_size)
       (omega arith)))
@@ -249,19 +249,19 @@ module _ (e : Endpoint) (ring finished records packets : List ℕ) (request : Re
   is_done : (w : Whole) → w ≡ stridden (required request (length lengths)) held → Done w
   unfolding closed
   is_done w q =
-      (held.id, (strides (required request (length lengths)) begunNow held askedNow ring finished).0.who.dci, ap (λ (x : Whole). x.0.answer) q)
+      (held.id, (strides (required request (length lengths)) begun_now held asked_now ring finished).0.who.dci, ap (λ (x : Whole). x.0.answer) q)
 
-  same : finish (most_stores request (length lengths)) begunNow ring finished written askedNow ≡ stridden (required request (length lengths)) held
+  same : finish (most_stores request (length lengths)) begun_now ring finished written asked_now ≡ stridden (required request (length lengths)) held
   same =
-      one_way (most_stores request (length lengths)) ends.0 begunNow ring finished written askedNow
-      (id_taken e records, begunNow.who.dci, (start_finishes e ring finished records packets request lengths passed ring_size_lem finished_size).answer)
-      (is_done (finish ends.0 begunNow ring finished written askedNow) ends.1)
+      one_way (most_stores request (length lengths)) ends.0 begun_now ring finished written asked_now
+      (id_taken e records, begun_now.who.dci, (start_finishes e ring finished records packets request lengths passed ring_size_lem finished_size).answer)
+      (is_done (finish ends.0 begun_now ring finished written asked_now) ends.1)
       ∙ ends.1
 
   -- What the stores of an admitted submission leave is what `send` leaves behind its start.
-  pub sent_is : joinedBy e records packets lengths ring finished request (finish (most_stores request (length lengths)) begunNow ring finished written askedNow)
-      ≡ sent_by begunNow held ring finished packets lengths
+  pub sent_is : joined_by e records packets lengths ring finished request (finish (most_stores request (length lengths)) begun_now ring finished written asked_now)
+      ≡ sent_by begun_now held ring finished packets lengths
   sent_is =
       let s = start_admitted e records packets request lengths passed in
-      ap (joinedBy e records packets lengths ring finished request) same
+      ap (joined_by e records packets lengths ring finished request) same
       ∙ alike e records packets lengths ring finished request.what request s.packets_size_lem (record_below e records packets request lengths passed) s.short

@@ -114,14 +114,14 @@ module _ (records packets : List ℕ) where
   -- ---- from one place of a submission to a later one
 
   -- The end of a submission, where x is the endpoint behind its last store.
-  abbrev endWith : Record → ℕ → Endpoint → List ℕ → List ℕ → Whole
-  endWith v bell x ring finished =
+  abbrev end_with : Record → ℕ → Endpoint → List ℕ → List ℕ → Whole
+  end_with v bell x ring finished =
       (record { answer = submitted.Done v.id bell; endpoint = with_store x x.at x.periodic.frame idle }, ring, finished)
 
   -- The stores of e lead to x: where nothing is left there, they end so; else x's stores may follow, and end them.
   Leads : Record → ℕ → Endpoint → List ℕ → List ℕ → Endpoint → List ℕ → List ℕ → Type 0
   Leads v bell e ring finished x ring' finished' =
-      (next_of x v ≡ none → Ends e ring finished (endWith v bell x ring' finished'))
+      (next_of x v ≡ none → Ends e ring finished (end_with v bell x ring' finished'))
       × (is_none (next_of x v) ≡ false
       → Storing x ring' finished' records packets × ((w : Whole) → Ends x ring' finished' w → Ends e ring finished w))
 
@@ -136,9 +136,9 @@ module _ (records packets : List ℕ) where
     one_store n q x ring' finished' step rings places = (
       λ nothing.
           subst (Ends e ring finished)
-          (ap (λ (y : Endpoint). endWith f e.who.dci y (ring_stored n e f packets ring) (finished_stored n e finished)) step
-          ∙ ap (λ (l : List ℕ). endWith f e.who.dci x l (finished_stored n e finished)) rings
-          ∙ ap (λ (l : List ℕ). endWith f e.who.dci x ring' l) places)
+          (ap (λ (y : Endpoint). end_with f e.who.dci y (ring_stored n e f packets ring) (finished_stored n e finished)) step
+          ∙ ap (λ (l : List ℕ). end_with f e.who.dci x l (finished_stored n e finished)) rings
+          ∙ ap (λ (l : List ℕ). end_with f e.who.dci x ring' l) places)
           (stops e ring finished s n q (ap (λ (y : Endpoint). is_none (next_of y f)) step ∙ ap is_none nothing)),
       λ more.
           let going : is_none (next_of (stepped n e f packets) f) ≡ false = ap (λ (y : Endpoint). is_none (next_of y f)) step ∙ more in (
@@ -163,7 +163,7 @@ module _ (records packets : List ℕ) where
   led_on v bell e ring finished x ring₁ finished₁ y ring₂ finished₂ first more then =
       let k = first.1 more in
       let l = then k.0 in
-      (λ nothing. k.1 (endWith v bell y ring₂ finished₂) (l.0 nothing), λ left. let m = l.1 left in (m.0, λ w ends. k.1 w (m.1 w ends)))
+      (λ nothing. k.1 (end_with v bell y ring₂ finished₂) (l.0 nothing), λ left. let m = l.1 left in (m.0, λ w ends. k.1 w (m.1 w ends)))
 
   -- ---- a stride is a store, or two
 
@@ -189,27 +189,27 @@ module _ (records packets : List ℕ) where
         one_store e ring finished s the_trb trb next put.1 put.2 (rw test) (rw test) refl
 
     -- behind one that leaves it at L-1 the link's too.
-    abbrev atLast : Endpoint
-    atLast = stepped the_trb e r packets
+    abbrev at_last : Endpoint
+    at_last = stepped the_trb e r packets
 
-    abbrev ringLast : List ℕ
-    ringLast = ring_stored the_trb e r packets ring
+    abbrev ring_last : List ℕ
+    ring_last = ring_stored the_trb e r packets ring
 
-    abbrev finishedLast : List ℕ
-    finishedLast = finished_stored the_trb e finished
+    abbrev finished_last : List ℕ
+    finished_last = finished_stored the_trb e finished
 
-    link_due : e.at.place + 2 ≡ e.shape.slots → next_of atLast r ≡ the_link
+    link_due : e.at.place + 2 ≡ e.shape.slots → next_of at_last r ≡ the_link
     unfolding stepped
-    link_due last = is_next atLast r the_link (omega arith)
+    link_due last = is_next at_last r the_link (omega arith)
 
     long : e.at.place + 2 ≡ e.shape.slots → onto
     unfolding stepped ring_stored finished_stored put_trb
     long last =
         let test : eqb (e.at.place + 1 + 1) e.shape.slots ≡ true = eq-eqb (e.at.place + 1 + 1) e.shape.slots (omega arith) in
-        led_on r e.who.dci e ring finished atLast ringLast finishedLast next put.1 put.2
-        (one_store e ring finished s the_trb trb atLast ringLast finishedLast refl refl refl)
+        led_on r e.who.dci e ring finished at_last ring_last finished_last next put.1 put.2
+        (one_store e ring finished s the_trb trb at_last ring_last finished_last refl refl refl)
         (ap is_none (link_due last))
-        (λ t. one_store atLast ringLast finishedLast t the_link (link_due last) next put.1 put.2 (rw test) (rw (test, chain_same the_trb e r packets)) refl)
+        (λ t. one_store at_last ring_last finished_last t the_link (link_due last) next put.1 put.2 (rw test) (rw (test, chain_same the_trb e r packets)) refl)
 
     stride : onto
     stride = ⊎_elim long short (same_or_not (e.at.place + 2) e.shape.slots)
@@ -228,11 +228,11 @@ module _ (records packets : List ℕ) where
 
   module _ (v : Record) (x : Endpoint) (ring finished : List ℕ) where
     again_closed : deferred v ≡ true
-        → endWith v x.who.dci x (store_at ring x.work.place (first_trb x v packets) x.work.cycle) finished ≡ closed v packets (x, ring, finished)
+        → end_with v x.who.dci x (store_at ring x.work.place (first_trb x v packets) x.work.cycle) finished ≡ closed v packets (x, ring, finished)
     unfolding closed
     again_closed late = rw late
 
-    other_closed : deferred v ≡ false → endWith v x.who.dci x ring finished ≡ closed v packets (x, ring, finished)
+    other_closed : deferred v ≡ false → end_with v x.who.dci x ring finished ≡ closed v packets (x, ring, finished)
     unfolding closed
     other_closed early = rw early
 

@@ -5,7 +5,7 @@ use lib.Seq.{paste, paste-zero}
 use Rattle.bursts.specs.Bursts.{bursts_of}
 use Rattle.requests.proofs.LengthLaws.{copied, copied_length}
 use Rattle.isoch.specs.Packed.{all_put}
-use Rattle.isoch.proofs.PacketLaws.{leftFrom, packet_next, packets_done, all_left}
+use Rattle.isoch.proofs.PacketLaws.{left_from, packet_next, packets_done, all_left}
 use Rattle.isoch.proofs.put_packets.Statement.{statement}
 use Rattle.isoch.proofs.put_packets.Tie as tie
 
@@ -17,7 +17,7 @@ invariant-loop ring₀ finished₀ packets₀ start shape s incoming sizes at₀
     × (packets ≡ paste packets₀ start sizes i)
     × (at.at.place + 1 < shape.slots)
     × (bursts ≡ bursts_of size s.packet s.burst)
-    × (leftFrom shape s incoming sizes i at ring finished ≡ all_put shape s incoming sizes at₀ ring₀ finished₀)
+    × (left_from shape s incoming sizes i at ring finished ≡ all_put shape s incoming sizes at₀ ring₀ finished₀)
 
 abbrev decreases-loop : tie.decreases-loop
 decreases-loop ring₀ finished₀ packets₀ start shape s incoming sizes at₀ size₀ bursts₀ i₀ ring finished packets at size bursts i = length sizes - i
