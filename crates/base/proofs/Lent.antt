@@ -9,7 +9,7 @@ use native.Mathlib.Nat.{mul-le-mul_left, mul-suc}
 use native.Mathlib.Omega.{arith}
 use borrow.Author.Tests.{eq-eqb}
 use lib.ListN.{length, get_or, take, drop, length-append, length-take, length-drop, get_or-append, drop_of_length-le}
-use lib.Seq.{sets, sets_eq, length-take-le, drop-drop, get_or-take, get_or-drop, get_or-append-add, ext_get_or}
+use lib.Seq.{sets, sets-eq, length-take-le, drop-drop, get_or-take, get_or-drop, get_or-append-add, ext_get_or}
 use Rattle.base.specs.Part.{filled, block_of, put}
 use Rattle.base.proofs.Compare.{compared}
 
@@ -18,7 +18,7 @@ pub all_stored : (new l : List ℕ) → length l ≡ length new → sets l 0 new
 all_stored new l h =
     let room : 0 + length new ≤ length l = omega arith in
     let none : drop (0 + length new) l ≡ [] = drop_of_length-le l {i = 0 + length new} (omega arith) in
-    sets_eq new l 0 room ∙ ap (λ (r : List ℕ). new ++ r) none ∙ append-nil new
+    sets-eq new l 0 room ∙ ap (λ (r : List ℕ). new ++ r) none ∙ append-nil new
 
 module _ (wide : ℕ) (l : List ℕ) (block : ℕ) (new : List ℕ) (size : length new ≡ wide) (fits : wide * block + wide ≤ length l) where
   -- The block was stored, number by number.
@@ -26,7 +26,7 @@ module _ (wide : ℕ) (l : List ℕ) (block : ℕ) (new : List ℕ) (size : leng
   unfolding put
   stored =
       let room : wide * block + length new ≤ length l = omega arith in
-      sets_eq new l (wide * block) room
+      sets-eq new l (wide * block) room
       ∙ ap (λ (n : ℕ). take (wide * block) l ++ new ++ drop (wide * block + n) l) size
       ∙ append_assoc (take (wide * block) l) new (drop (wide * block + wide) l)
       ∙ ap (λ (r : List ℕ). take (wide * block) l ++ (new ++ r)) (sym (drop-drop wide (wide * block) l))
