@@ -246,7 +246,7 @@ module _ (lengths : List ℕ) (id place r : ℕ) (packets : List ℕ) (sized : l
 -- As many as the request takes.
 isoch_count : (incoming : Bool) (packet burst address : ℕ) (ns : List ℕ) → length (isoch_trbs incoming packet burst address ns) ≡ length ns
 isoch_count incoming packet burst address [] = refl
-isoch_count incoming packet burst address (n ∷ ns) = ap suc (isoch_count incoming packet burst _ ns)
+isoch_count incoming packet burst address (n ∷ ns) = ap suc (isoch_count incoming packet burst ((address + n) % 2 ^ 64) ns)
 
 control_count : (type request value index address size : ℕ) (incoming b : Bool) → eqb size 0 ≡ b
     → length (control_trbs type request value index address size incoming) ≡ pick b 2 3
@@ -273,7 +273,7 @@ plain_trb t other = ne_eqb (type_of (bare t)) 6 (λ q. other (sym (type_is t fal
 module _ (K : ℕ) where
   isoch_plain : (incoming : Bool) (packet burst address : ℕ) (ns : List ℕ) → Plain (flat K) (bared (isoch_trbs incoming packet burst address ns))
   isoch_plain incoming packet burst address [] = tt
-  isoch_plain incoming packet burst address (n ∷ ns) = (plain_trb _ (λ q. omega arith), isoch_plain incoming packet burst _ ns)
+  isoch_plain incoming packet burst address (n ∷ ns) = (plain_trb _ (λ q. omega arith), isoch_plain incoming packet burst ((address + n) % 2 ^ 64) ns)
 
   control_plain : (type request value index address size : ℕ) (incoming : Bool)
       → Plain (flat K) (bared (control_trbs type request value index address size incoming))

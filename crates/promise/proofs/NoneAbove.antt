@@ -69,7 +69,7 @@ isoch_none_above : (mask : ℕ) (incoming : Bool) (packet burst address : ℕ) (
     → NoneAbove mask (isoch_trbs incoming packet burst address ns)
 isoch_none_above mask incoming packet burst address [] e = tt
 isoch_none_above mask incoming packet burst address (n ∷ ns) e =
-    (λ k l. omega (arith, e, l), isoch_none_above mask incoming packet burst _ ns (omega (arith, e)))
+    (λ k l. omega (arith, e, l), isoch_none_above mask incoming packet burst ((address + n) % 2 ^ 64) ns (omega (arith, e)))
 
 pub trbs_none_above : (mask : ℕ) (s : Settings) (request : Request) (lengths : List ℕ) → too_long request.what request.length lengths ≡ false
     → beyond mask request.address request.length ≡ false → NoneAbove mask (trbs_of s request lengths)
