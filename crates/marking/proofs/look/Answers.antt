@@ -31,7 +31,7 @@ returns-in-Bytes c =
     let n = c.in-Bytes.n in
     c.credit.ensures
     ∙ ap (λ (x : Event). credit_of a.p n x.code a.s) c.event_of-event.ensures
-    ∙ seen_bytes w a.p a.s n (ap worth_of (sym c.in-Bytes.is) ∙ valued ⟦c:After-credit+4⟧)
+    ∙ seen_bytes w a.p a.s n (ap worth_of (sym c.in-Bytes.is) ∙ valued c.before.before)
     ∙ ap (λ (x : Finished). seen_of x a.p a.s) (sym c.in-Event.is)
 
 pub returns-in-Refused : goal.returns-in-Refused
@@ -39,5 +39,5 @@ returns-in-Refused c =
     let a = c.args in
     let w = c.in-Event.w in
     ap (λ (x : Event). after a.p (broken a.s x.code)) c.event_of-event.ensures
-    ∙ seen_refused w a.p a.s (ap worth_of (sym c.in-Refused.is) ∙ valued ⟦c:In-Refused+2⟧)
+    ∙ seen_refused w a.p a.s (ap worth_of (sym c.in-Refused.is) ∙ valued c.before)
     ∙ ap (λ (x : Finished). seen_of x a.p a.s) (sym c.in-Event.is)
