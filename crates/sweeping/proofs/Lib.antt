@@ -1,3 +1,1 @@
--- The laws of `sweeping`.
-pub mod LentArray
-pub mod Machine
+-- The laws of `sweeping`: none of its own, `marking` has them.
