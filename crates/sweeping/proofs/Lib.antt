@@ -1,1 +1,2 @@
--- The laws of `sweeping`: none of its own, `marking` has them.
+-- The laws of `sweeping`.
+pub mod WalkedLaws

@@ -1,19 +1,26 @@
-use Rattle.std.proofs.Common.{rules, ◌≡◌, ◌<◌, ℕ, ◌+◌, ◌-◌, ◌*◌, ◌≤◌, length, ◌/◌, ◌%◌, Bool, true, false, nat_eq, nat_lt, List, [], ◌∷◌, ◌++◌, slice_index_or, slice_set, bit_and, bit_or, Fits, w8, w32, w64, Bor, MutBor}
-use Rattle.marking.specs.Marking.{walked}
+-- `mark_packets` meets its contract: the loop makes the turns of `walked`, one by one. Assumes nothing.
+use Rattle.std.proofs.Common.{◌≡◌, ℕ, zero, suc, ◌+◌, ◌<◌, ◌≤◌, List, length, refl, sym, ap, ◌∙◌, subst, arith}
+use Rattle.std.proofs.Math.ListN.{length-set}
+use Rattle.packets.specs.declared.Packet.{Packet}
+use Rattle.marking.specs.declared.Standing.{Standing}
+use Rattle.marking.specs.declared.Turned.{Turned}
+use Rattle.marking.specs.declared.Block.{Block}
+use Rattle.marking.specs.Marking.{Fine, Walked, begin_of, turns, turn_at, turn_of, walked, standing_at}
+use Rattle.marking.proofs.WalkLaws.{left_turns, Kept, turn_keeps, begin_fine, begin_left}
+use Rattle.sweeping.proofs.WalkedLaws.{Walks, walks_begun, walks_on, walks_ended, walks_fewer}
 use Rattle.sweeping.proofs.mark_packets.Goals as goal
 
--- src/lib.rt:17:5
 pub loop-s-init : goal.loop-s-init
-loop-s-init c = ?
+loop-s-init c = walks_begun _ _ _ c.begin-s.ensures
 
--- src/lib.rt:17:5
+pub turn-t-requires : goal.turn-t-requires
+turn-t-requires c = (c.loop-s-test.true, (c.loop-s.invariant.fine c.loop-s-test.true).0)
+
 pub loop-s-smaller : goal.loop-s-smaller
-loop-s-smaller c = ?
+loop-s-smaller c = walks_fewer c.loop-s.invariant c.loop-s-test.true c.turn-t.ensures
 
--- src/lib.rt:17:5
 pub loop-s-preserved : goal.loop-s-preserved
-loop-s-preserved c = ?
+loop-s-preserved c = walks_on c.loop-s.invariant c.loop-s-test.true c.turn-t.ensures
 
--- src/lib.rt:13:1
 pub returns : goal.returns
-returns c = ?
+returns c = walks_ended c.loop-s.invariant (omega arith)
