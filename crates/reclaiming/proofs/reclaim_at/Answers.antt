@@ -8,17 +8,6 @@ use Rattle.refusal.specs.Misplaced.{misplaced}
 use Rattle.reclaiming.specs.Parts.{reclaim_at}
 use Rattle.refusal.proofs.CallLaws.{well_placed}
 use Rattle.reclaiming.proofs.reclaim_at.Goals as goal
-use Rattle.reclaiming.proofs.reclaim_at.Goals.{Then-v-eq-IN_FLIGHT}
-
--- The record is in flight, and not misplaced.
-flying : (c : Then-v-eq-IN_FLIGHT)
-    → let v : Record = c.record_at-v.result in
-    (v.place + 1 < c.args.e.shape.slots) × (v.kind ≡ isoch → v.count ≤ packet_count)
-flying c =
-    let slots = c.args.e.shape.slots in
-    well_placed slots c.record_at-v.result
-    (ap (misplaced slots) c.record_at-v.ensures ∙ c.requires.3)
-    c.if-v-eq-IN_FLIGHT.true
 
 pub returns-then-v-eq-STOPPED : goal.returns-then-v-eq-STOPPED
 unfolding reclaim_at
@@ -28,7 +17,11 @@ returns-then-v-eq-STOPPED c =
 pub reclaim_flying-requires : goal.reclaim_flying-requires
 reclaim_flying-requires c =
     let s = c.requires.0 in
-    let f = flying c.before.before in
+    let slots = c.args.e.shape.slots in
+    let v : Record = c.record_at-v.result in
+    -- the record is in flight, and not misplaced
+    let f : (v.place + 1 < slots) × (v.kind ≡ isoch → v.count ≤ packet_count) =
+        well_placed slots v (ap (misplaced slots) c.record_at-v.ensures ∙ c.requires.3) c.if-v-eq-IN_FLIGHT.true in
     let p = c.requires in (
       record { least = s.least; most = s.most; table = s.table; place = f.0; held = s.held },
       p.1,

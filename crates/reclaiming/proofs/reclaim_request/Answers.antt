@@ -12,34 +12,23 @@ use Rattle.ids.specs.declared.Lookup.{Lookup}
 use Rattle.checks.specs.Shown.{Shown}
 use Rattle.sizes.specs.Sizes.{records_size, packets_size}
 use Rattle.reclaiming.proofs.reclaim_request.Goals as goal
-use Rattle.reclaiming.proofs.reclaim_request.Goals.{Else-no-ne0}
-
--- Past the test there is no refusal, and so what the reclaim of a record needs.
-none : (c : Else-no-ne0)
-    → let a = c.args in
-    reclaim_no a.e (length a.finished.now) a.records.now (length a.packets.now) a.id ≡ 0
-none c = sym c.reclaim_no-no.ensures ∙ c.if-no-ne0.false
-
-ok : (c : Else-no-ne0)
-    → let a = c.args in
-    (Shown a.e.shape.slots (length a.finished.now) 0 0)
-    × (length a.records.now ≡ records_size)
-    × (length a.packets.now ≡ packets_size)
-    × (bad_record a.e a.records.now (find_in a.records.now a.e.account.occupancy a.id) ≡ false)
-ok c = reclaimable _ _ _ _ _ (none c)
 
 pub returns-then-no-ne0 : goal.returns-then-no-ne0
 unfolding reclaim
 returns-then-no-ne0 c = simp (← c.reclaim_no-no.ensures, ne_eqb _ _ c.if-no-ne0.true)
 
 pub find_id-found-requires : goal.find_id-found-requires
-find_id-found-requires c = (ok c.before).1
+find_id-found-requires c = (reclaimable _ _ _ _ _ (sym c.reclaim_no-no.ensures ∙ c.if-no-ne0.false)).1
 
 pub reclaim_at-requires : goal.reclaim_at-requires
 reclaim_at-requires c =
     let a = c.args in
     let told = (sym c.in-At.is ∙ c.find_id-found.ensures) in
-    let tests = ok c.before.before.before.before.before in
+    let tests : (Shown a.e.shape.slots (length a.finished.now) 0 0)
+            × (length a.records.now ≡ records_size)
+            × (length a.packets.now ≡ packets_size)
+            × (bad_record a.e a.records.now (find_in a.records.now a.e.account.occupancy a.id) ≡ false) =
+        reclaimable _ _ _ _ _ (sym c.reclaim_no-no.ensures ∙ c.if-no-ne0.false) in
     let s = tests.0 in (
       record {
         least = s.least;
@@ -57,7 +46,7 @@ pub returns-in-Nothing : goal.returns-in-Nothing
 unfolding reclaim
 returns-in-Nothing c =
     let a = c.args in
-    simp (none c.before.before.before.before)
+    simp (sym c.reclaim_no-no.ensures ∙ c.if-no-ne0.false)
     (ap (λ (x : ReclaimedOne). (x, a.records.now, a.packets.now)) c.unfinished.ensures
     ∙ ap (λ (x : Lookup). reclaim_found x a.e a.finished.now a.records.now a.packets.now) (sym c.in-Nothing.is ∙ c.find_id-found.ensures))
 
@@ -65,6 +54,6 @@ pub returns-in-At : goal.returns-in-At
 unfolding reclaim reclaim_at
 returns-in-At c =
     let a = c.args in
-    simp (none c.before.before.before.before.before.before.before.before.before.before)
+    simp (sym c.reclaim_no-no.ensures ∙ c.if-no-ne0.false)
     (c.reclaim_at.ensures
     ∙ ap (λ (x : Lookup). reclaim_found x a.e a.finished.now a.records.now a.packets.now) (sym c.in-At.is ∙ c.find_id-found.ensures))
