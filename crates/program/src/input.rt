@@ -1,5 +1,6 @@
 // The input, line by line, and the page that is written before more of it is waited for.
 use lines::{Reading, Scanned};
+use std::io::{Read, Stdin};
 
 // The input: what was read of it and not yet looked at stands from `at` to `have`. `line` is the number of the line that was read last.
 #[derive(Clone, Copy)]
@@ -27,15 +28,26 @@ pub struct Stand {
 }
 
 // More of the input, where all of what came is looked at. Before it is waited for, what stands on the page is written.
-fn more(bytes: &mut [u8], from: usize, have: usize, out: &[u8], page: usize) -> Stand {
+// A read that fails ends the input.
+fn more(
+    stdin: &mut Stdin,
+    bytes: &mut [u8],
+    from: usize,
+    have: usize,
+    out: &[u8],
+    page: usize,
+) -> Stand {
     if from < have {
         return Stand { from, have, page };
     }
     let written = page::flush(out, page);
-    let got = libc::read(libc::STDIN_FILENO, bytes);
+    let got = match stdin.read(bytes) {
+        Ok(n) => n,
+        Err(_) => 0,
+    };
     Stand {
         from: 0,
-        have: io::count(got, bytes),
+        have: got,
         page: written,
     }
 }
@@ -50,6 +62,7 @@ fn scan_to(bytes: &[u8], from: usize, have: usize, line: Reading, values: &mut [
 
 // The next line.
 pub fn next_line(
+    stdin: &mut Stdin,
     bytes: &mut [u8],
     input: Input,
     values: &mut [u64],
@@ -66,7 +79,7 @@ pub fn next_line(
     let mut turns = u64::MAX;
     while 0 < turns {
         turns -= 1;
-        let m = more(bytes, from, have, out, page);
+        let m = more(stdin, bytes, from, have, out, page);
         from = m.from;
         have = m.have;
         page = m.page;

@@ -13,6 +13,7 @@ use console::serve;
 use controller::Consumer;
 use dock::{Changed, Endpoint, Outcome};
 use lines::Reading;
+use std::io::Stdin;
 use values::{Next, Opening, Turn, value};
 
 // What a program lends: the words of a ring of 4,096 slots and of its finished table, records and packets, the bytes read, the numbers of a line, and a
@@ -258,6 +259,7 @@ fn turn(
 
 // All lines of standard input; a ring has at most `most` slots. `full` says that a drive's words are known.
 pub fn run(
+    stdin: &mut Stdin,
     ring: &mut [u32; WORDS],
     finished: &mut [u32; WORDS],
     records: &mut [u64; RECORDS],
@@ -282,7 +284,7 @@ pub fn run(
     let mut turns = u64::MAX;
     while 0 < turns {
         turns -= 1;
-        let g = input::next_line(bytes, place, values, full, out, page);
+        let g = input::next_line(stdin, bytes, place, values, full, out, page);
         place = g.input;
         page = g.page;
         if !g.some {

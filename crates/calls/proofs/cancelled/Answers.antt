@@ -14,11 +14,5 @@ returns c =
     let a = c.args in
     ap (λ (q : Page). (turn a.e q, c.cancel_request-answer.new.records, q.1)) c.put_cut-end.ensures ∙ ap (cancelled_by a.e a.id (a.at, a.out.now)) c.cancel_request-answer.ensures
 
-pub cancel_request-answer-requires : goal.cancel_request-answer-requires
-cancel_request-answer-requires c = tt
-
-pub put_cut-end-requires : goal.put_cut-end-requires
-put_cut-end-requires c = tt
-
 pub shape_of-out : goal.shape_of-out
 shape_of-out c = c.put_cut-end.auto.out

@@ -20,12 +20,3 @@ shape_of-packets c =
 pub returns : goal.returns
 returns c =
     rw (← c.shape_of.ensures, ← c.identity_of.ensures) c.make.ensures
-
-pub shape_of-requires : goal.shape_of-requires
-shape_of-requires c = tt
-
-pub identity_of-requires : goal.identity_of-requires
-identity_of-requires c = tt
-
-pub make-requires : goal.make-requires
-make-requires c = tt

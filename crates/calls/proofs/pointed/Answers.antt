@@ -11,9 +11,3 @@ unfolding pointed
 returns c =
     let a = c.args in
     ap (λ (q : Page). told a.e q) c.put_pointed-end.ensures ∙ ap (λ (x : Pointed). told a.e (put_all (a.at, a.out.now) (pointed_line x))) c.enqueue_pointer-answer.ensures
-
-pub enqueue_pointer-answer-requires : goal.enqueue_pointer-answer-requires
-enqueue_pointer-answer-requires c = tt
-
-pub put_pointed-end-requires : goal.put_pointed-end-requires
-put_pointed-end-requires c = tt

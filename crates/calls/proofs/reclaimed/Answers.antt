@@ -19,11 +19,5 @@ returns c =
     let s = c.reclaim_request-r in
     ap (λ (q : Page). (turn s.result.endpoint q, s.new.records, s.new.packets, q.1)) c.put_reclaimed-end.ensures ∙ ap (reclaimed_by (a.at, a.out.now)) s.ensures
 
-pub reclaim_request-r-requires : goal.reclaim_request-r-requires
-reclaim_request-r-requires c = tt
-
-pub put_reclaimed-end-requires : goal.put_reclaimed-end-requires
-put_reclaimed-end-requires c = tt
-
 pub shape_of-out : goal.shape_of-out
 shape_of-out c = c.put_reclaimed-end.auto.out

@@ -9,9 +9,3 @@ unfolding reset
 returns c =
     let a = c.args in
     ap (λ (q : Page). told c.begin_reset-b.result.endpoint q) c.put_resetting-end.ensures ∙ ap (reset_by (a.at, a.out.now)) c.begin_reset-b.ensures
-
-pub begin_reset-b-requires : goal.begin_reset-b-requires
-begin_reset-b-requires c = tt
-
-pub put_resetting-end-requires : goal.put_resetting-end-requires
-put_resetting-end-requires c = tt

@@ -11,9 +11,3 @@ unfolding resumed
 returns c =
     let a = c.args in
     ap (λ (q : Page). told a.e q) c.put_commanded-end.ensures ∙ ap (λ (x : Command). told a.e (put_all (a.at, a.out.now) (commanded_line x))) c.resume_words-answer.ensures
-
-pub resume_words-answer-requires : goal.resume_words-answer-requires
-resume_words-answer-requires c = tt
-
-pub put_commanded-end-requires : goal.put_commanded-end-requires
-put_commanded-end-requires c = tt

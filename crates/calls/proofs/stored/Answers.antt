@@ -20,14 +20,5 @@ returns c =
     ap (λ (q : Page). (record { e = s.result.endpoint; at = q.0; more = c.goes_on-more.result }, s.new.ring, s.new.finished, q.1)) c.put_stored-end.ensures
     ∙ rw c.goes_on-more.ensures (ap (stored_by (a.at, a.out.now)) s.ensures)
 
-pub next_store-s-requires : goal.next_store-s-requires
-next_store-s-requires c = tt
-
-pub put_stored-end-requires : goal.put_stored-end-requires
-put_stored-end-requires c = tt
-
-pub goes_on-more-requires : goal.goes_on-more-requires
-goes_on-more-requires c = tt
-
 pub shape_of-out : goal.shape_of-out
 shape_of-out c = c.put_stored-end.auto.out

@@ -43,9 +43,6 @@ returns c =
 pub loop-left-init : goal.loop-left-init
 loop-left-init c = (refl, refl, refl, refl)
 
-pub stored-t-requires : goal.stored-t-requires
-stored-t-requires c = tt
-
 pub shape_of-ring : goal.shape_of-ring
 shape_of-ring c = c.loop-left.invariant.0
 

@@ -27,11 +27,5 @@ returns c =
     let s = c.submit_request-s in
     ap (λ (q : Page). (turn s.result.endpoint q, s.new.ring, s.new.finished, s.new.records, s.new.packets, q.1)) c.put_submitted-end.ensures ∙ ap (submitted_by (a.at, a.out.now)) s.ensures
 
-pub submit_request-s-requires : goal.submit_request-s-requires
-submit_request-s-requires c = tt
-
-pub put_submitted-end-requires : goal.put_submitted-end-requires
-put_submitted-end-requires c = tt
-
 pub shape_of-out : goal.shape_of-out
 shape_of-out c = c.put_submitted-end.auto.out

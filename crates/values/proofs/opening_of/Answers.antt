@@ -27,6 +27,3 @@ pub returns : goal.returns
 unfolding opening_of
 returns c =
     simp (not-false c.args.r.good c.if-not-r.false, eq-eqb _ _ c.if-r-ne0.false, eq-eqb _ _ c.if-r-ne-RING.false, ← c.value.ensures, le-ltb _ _ c.if-most-value.false)
-
-pub value-requires : goal.value-requires
-value-requires c = tt

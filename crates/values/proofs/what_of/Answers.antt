@@ -21,27 +21,3 @@ pub returns : goal.returns
 unfolding what_of
 returns c =
     simp (ne_eqb _ _ c.if-name-eq-CONTROL.false, ne_eqb _ _ c.if-name-eq-ISO.false, ne_eqb _ _ c.if-name-eq-INTERRUPT.false, c.value-a.ensures)
-
-pub value-a-requires : goal.value-a-requires
-value-a-requires c = tt
-
-pub byte-requires : goal.byte-requires
-byte-requires c = tt
-
-pub value-requires : goal.value-requires
-value-requires c = tt
-
-pub byte-requires-then-name-eq-CONTROL : goal.byte-requires-then-name-eq-CONTROL
-byte-requires-then-name-eq-CONTROL c = tt
-
-pub value-requires-then-name-eq-CONTROL : goal.value-requires-then-name-eq-CONTROL
-value-requires-then-name-eq-CONTROL c = tt
-
-pub half-requires : goal.half-requires
-half-requires c = tt
-
-pub value-requires-then-name-eq-CONTROL-2 : goal.value-requires-then-name-eq-CONTROL-2
-value-requires-then-name-eq-CONTROL-2 c = tt
-
-pub half-requires-then-name-eq-CONTROL : goal.half-requires-then-name-eq-CONTROL
-half-requires-then-name-eq-CONTROL c = tt

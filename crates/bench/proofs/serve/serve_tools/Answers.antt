@@ -27,20 +27,8 @@ pub returns : goal.returns
 unfolding serve_tools
 returns c = rw (ne_eqb _ _ c.if-w-eq-SLOT.false, ne_eqb _ _ c.if-w-eq-STATE.false, ne_eqb _ _ c.if-w-eq-NEXTID.false)
 
-pub value-first-requires : goal.value-first-requires
-value-first-requires c = tt
-
-pub serve_slot-requires : goal.serve_slot-requires
-serve_slot-requires c = tt
-
 pub shape_of-out-then-w-eq-SLOT : goal.shape_of-out-then-w-eq-SLOT
 shape_of-out-then-w-eq-SLOT c = c.serve_slot.auto.out
 
-pub put_state-end-requires : goal.put_state-end-requires
-put_state-end-requires c = tt
-
 pub shape_of-out-then-w-eq-STATE : goal.shape_of-out-then-w-eq-STATE
 shape_of-out-then-w-eq-STATE c = c.put_state-end.auto.out
-
-pub with_next-next-requires : goal.with_next-next-requires
-with_next-next-requires c = tt

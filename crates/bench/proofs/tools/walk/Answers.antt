@@ -32,8 +32,5 @@ returns c =
 pub loop-left-init : goal.loop-left-init
 loop-left-init c = (refl, refl)
 
-pub stride-s-requires : goal.stride-s-requires
-stride-s-requires c = tt
-
 pub shape_of-out : goal.shape_of-out
 shape_of-out c = c.loop-left.invariant.0

@@ -12,9 +12,3 @@ pub returns : goal.returns
 unfolding walked
 returns c =
     ap (λ (q : Page). (record { c = c.walk-w.result.c; at = q.0 }, q.1)) c.put_stands-end.ensures ∙ ap stand_by c.walk-w.ensures
-
-pub walk-w-requires : goal.walk-w-requires
-walk-w-requires c = tt
-
-pub put_stands-end-requires : goal.put_stands-end-requires
-put_stands-end-requires c = tt

@@ -82,15 +82,3 @@ pub returns : goal.returns
 unfolding serve
 returns c =
     rw (← c.is_bad.ensures, c.if-is_bad.false, ne_eqb _ _ c.if-r-eq0.false, ne_eqb _ _ c.if-r-eq-POKE.false) c.serve_named.ensures
-
-pub is_bad-requires : goal.is_bad-requires
-is_bad-requires c = tt
-
-pub serve_alone-requires : goal.serve_alone-requires
-serve_alone-requires c = tt
-
-pub serve_poke-requires : goal.serve_poke-requires
-serve_poke-requires c = tt
-
-pub serve_named-requires : goal.serve_named-requires
-serve_named-requires c = tt

@@ -69,26 +69,8 @@ unfolding serve_alone
 returns c =
     rw (ne_eqb _ _ c.if-w-eq-STORE.false, sym c.is_call.ensures ∙ c.if-is_call.false, sym c.is_tool.ensures ∙ c.if-is_tool.false) c.serve_session.ensures
 
-pub stored-t-requires : goal.stored-t-requires
-stored-t-requires c = tt
-
-pub is_call-requires : goal.is_call-requires
-is_call-requires c = tt
-
-pub serve_calls-requires : goal.serve_calls-requires
-serve_calls-requires c = tt
-
 pub shape_of-records-then-is_call : goal.shape_of-records-then-is_call
 shape_of-records-then-is_call c = c.serve_calls.auto.records
 
-pub is_tool-requires : goal.is_tool-requires
-is_tool-requires c = tt
-
-pub serve_tools-requires : goal.serve_tools-requires
-serve_tools-requires c = tt
-
 pub shape_of-out-then-is_tool : goal.shape_of-out-then-is_tool
 shape_of-out-then-is_tool c = c.serve_tools.auto.out
-
-pub serve_session-requires : goal.serve_session-requires
-serve_session-requires c = tt

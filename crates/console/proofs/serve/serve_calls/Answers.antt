@@ -48,14 +48,8 @@ returns c =
     let a = c.args in
     rw (ne_eqb _ _ c.if-w-eq-CONFIGURE.false, ne_eqb _ _ c.if-w-eq-RETIRE.false, ne_eqb _ _ c.if-w-eq-STOP.false, ne_eqb _ _ c.if-w-eq-RESUME.false, ne_eqb _ _ c.if-w-eq-RESET.false, ne_eqb _ _ c.if-w-eq-END.false) (ap (λ (t : Turn × List ℕ). (t.0, a.records.now, t.1)) c.pointed.ensures)
 
-pub configured-requires : goal.configured-requires
-configured-requires c = tt
-
 pub shape_of-out-then-w-eq-CONFIGURE : goal.shape_of-out-then-w-eq-CONFIGURE
 shape_of-out-then-w-eq-CONFIGURE c = c.configured.auto.out
-
-pub retired-requires : goal.retired-requires
-retired-requires c = tt
 
 pub shape_of-records-then-w-eq-RETIRE : goal.shape_of-records-then-w-eq-RETIRE
 shape_of-records-then-w-eq-RETIRE c = c.retired.auto.records
@@ -63,35 +57,17 @@ shape_of-records-then-w-eq-RETIRE c = c.retired.auto.records
 pub shape_of-out-then-w-eq-RETIRE : goal.shape_of-out-then-w-eq-RETIRE
 shape_of-out-then-w-eq-RETIRE c = c.retired.auto.out
 
-pub stopped-requires : goal.stopped-requires
-stopped-requires c = tt
-
 pub shape_of-out-then-w-eq-STOP : goal.shape_of-out-then-w-eq-STOP
 shape_of-out-then-w-eq-STOP c = c.stopped.auto.out
-
-pub resumed-requires : goal.resumed-requires
-resumed-requires c = tt
 
 pub shape_of-out-then-w-eq-RESUME : goal.shape_of-out-then-w-eq-RESUME
 shape_of-out-then-w-eq-RESUME c = c.resumed.auto.out
 
-pub reset-requires : goal.reset-requires
-reset-requires c = tt
-
 pub shape_of-out-then-w-eq-RESET : goal.shape_of-out-then-w-eq-RESET
 shape_of-out-then-w-eq-RESET c = c.reset.auto.out
 
-pub value-worked-requires : goal.value-worked-requires
-value-worked-requires c = tt
-
-pub ended-requires : goal.ended-requires
-ended-requires c = tt
-
 pub shape_of-out-then-w-eq-END : goal.shape_of-out-then-w-eq-END
 shape_of-out-then-w-eq-END c = c.ended.auto.out
-
-pub pointed-requires : goal.pointed-requires
-pointed-requires c = tt
 
 pub shape_of-out : goal.shape_of-out
 shape_of-out c = c.pointed.auto.out

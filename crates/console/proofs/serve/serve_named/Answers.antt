@@ -50,15 +50,3 @@ pub returns : goal.returns
 unfolding serve_named
 returns c =
     rw (ne_eqb _ _ c.if-r-eq-BEGIN.false, ← c.request_of-request.ensures, ← c.lengths_of-lengths.ensures) c.submitted.ensures
-
-pub request_of-request-requires : goal.request_of-request-requires
-request_of-request-requires c = tt
-
-pub lengths_of-lengths-requires : goal.lengths_of-lengths-requires
-lengths_of-lengths-requires c = tt
-
-pub begun-requires : goal.begun-requires
-begun-requires c = tt
-
-pub submitted-requires : goal.submitted-requires
-submitted-requires c = tt

@@ -66,32 +66,11 @@ unfolding serve_session
 returns c =
     rw (ne_eqb _ _ c.if-w-eq-EVENT.false, ne_eqb _ _ c.if-w-eq-RECLAIM.false, ne_eqb _ _ c.if-w-eq-CANCEL.false, ← c.request_of-request.ensures, ← c.lengths_of-lengths.ensures) c.asked.ensures
 
-pub value-first-requires : goal.value-first-requires
-value-first-requires c = tt
-
-pub handed-requires : goal.handed-requires
-handed-requires c = tt
-
 pub shape_of-finished-then-w-eq-EVENT : goal.shape_of-finished-then-w-eq-EVENT
 shape_of-finished-then-w-eq-EVENT c = c.handed.auto.finished
 
 pub shape_of-out-then-w-eq-EVENT : goal.shape_of-out-then-w-eq-EVENT
 shape_of-out-then-w-eq-EVENT c = c.handed.auto.out
 
-pub reclaimed-requires : goal.reclaimed-requires
-reclaimed-requires c = tt
-
-pub cancelled-requires : goal.cancelled-requires
-cancelled-requires c = tt
-
 pub shape_of-records-then-w-eq-CANCEL : goal.shape_of-records-then-w-eq-CANCEL
 shape_of-records-then-w-eq-CANCEL c = c.cancelled.auto.records
-
-pub request_of-request-requires : goal.request_of-request-requires
-request_of-request-requires c = tt
-
-pub lengths_of-lengths-requires : goal.lengths_of-lengths-requires
-lengths_of-lengths-requires c = tt
-
-pub asked-requires : goal.asked-requires
-asked-requires c = tt
