@@ -8,7 +8,7 @@ use Rattle.words.specs.Words as words
 use Rattle.lines.specs.declared.Reading.{Reading}
 use Rattle.values.specs.declared.Next.TheVariants.{On, Bad}
 use Rattle.values.specs.declared.Turn.{Turn}
-use Rattle.values.specs.Values.{value, word, flagged, request_of, lengths_of, is_bad}
+use Rattle.values.specs.Values.{value, flagged, request_of, lengths_of, is_bad}
 use Rattle.bench.specs.Bench.{leaves, serve_poke, is_tool, serve_tools}
 use Rattle.calls.specs.Calls.{configured, ended, stopped, resumed, pointed, reset, handed, cancelled, retired, reclaimed, begun, stored_one, asked, submitted}
 

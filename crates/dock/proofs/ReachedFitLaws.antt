@@ -11,7 +11,7 @@ use borrow.Author.Tests.{eqb-true, eqb-false, eq-eqb, ne_eqb, ltb-true, ltb-fals
 use lib.Dec.{eqb, ltb, leb}
 use lib.ListN.{length}
 use lib.Seq.{get_or-set_other}
-use Rattle.base.specs.First.{pick, first}
+use Rattle.base.specs.First.{pick}
 use Rattle.base.proofs.Chosen.{quiet}
 use Rattle.base.proofs.Compare.{same_or_not}
 use Rattle.base.proofs.Decide.{Decides, both, if_so, by_leb, by_ltb, by_true, by_false}

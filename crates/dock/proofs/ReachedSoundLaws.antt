@@ -9,7 +9,6 @@ use borrow.Author.Tests.{eqb-true, eq-eqb, ltb-true, ltb-false, not-false}
 use lib.Dec.{eqb, ltb, leb}
 use lib.ListN.{length, get_or, length-replicate}
 use lib.Seq.{length-paste}
-use Rattle.base.specs.First.{first}
 use Rattle.base.proofs.Chosen.{quiet}
 use Rattle.base.proofs.Decide.{Decides, both, by_eqb, by_ltb, by_leb, by_true, by_false}
 use Rattle.mask.specs.Occupancy.{held, LowestFree, Tells}

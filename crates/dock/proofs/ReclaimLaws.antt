@@ -24,7 +24,6 @@ use Rattle.packets.proofs.PacketLaws.{packet_other}
 use Rattle.records.proofs.RecordLaws.{word_kept}
 use Rattle.dock.specs.declared.Endpoint.{Endpoint}
 use Rattle.dock.specs.declared.Reclaimed.{Reclaimed}
-use Rattle.dock.specs.declared.Reclaimed.TheVariants as answer
 use Rattle.dock.specs.declared.ReclaimedOne.{ReclaimedOne}
 use Rattle.dock.specs.Worth.{Worth, bytes, refused, worth, accepted}
 use Rattle.dock.specs.Reclaim.{leave, final, complete_tests, complete_answer, complete, nothing, code_of, remaining_of, bulk_by, reclaim_bulk, Seen, onward, ends, stage_by, status_by, recorded_by, status_place, data_seen, after_stage, records_after, reclaim_control, counted, close_below, Swept, unfinished, fatal, found, swept_by, swept_at, sweep, swept_answer, reclaim_iso, reclaim_flying, place_of}

@@ -26,7 +26,6 @@ use Rattle.records.specs.Records.{in_flight, stopped, word_at, record_at}
 use Rattle.dock.specs.declared.Changed.{Changed}
 use Rattle.dock.specs.declared.Endpoint.{Endpoint}
 use Rattle.dock.specs.declared.Outcome.TheVariants.{Done, Refused}
-use Rattle.dock.specs.declared.Reclaimed.TheVariants as answer
 use Rattle.dock.specs.declared.ReclaimedOne.{ReclaimedOne}
 use Rattle.dock.specs.RowOne.{place_fits, fits, strays, fits_with}
 use Rattle.dock.specs.State.{with_account}

@@ -1,7 +1,7 @@
 -- What becomes of every packet of an ISO request that is reclaimed, as one law: a marked packet stays as it was, one with an event counts what its
 -- event is worth, one without counts 0 where the last packet is found and else stays; a refused code ends the walk, and its packet and those behind
 -- it stay. Assumes nothing.
-use Prim.Native.Nat.{ℕ, zero, suc, ◌+◌, ◌*◌, ◌%◌, ◌^◌, ◌≤◌, ◌<◌}
+use Prim.Native.Nat.{ℕ, zero, suc, ◌+◌, ◌%◌, ◌^◌, ◌≤◌, ◌<◌}
 use mathlib.Core.Bool.{Bool, true, false, false≢true}
 use mathlib.Core.List.{List}
 use mathlib.Core.Logic.{◌⊎◌, inl, inr, ⊎_elim}

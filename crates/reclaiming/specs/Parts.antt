@@ -1,7 +1,6 @@
 -- The reclaim of a held record.
 use Rattle.std.specs.Prelude.{ℕ, List}
 use Rattle.ids.specs.declared.Lookup.TheVariants.{At}
-use Rattle.finished.specs.declared.Finished.TheVariants as place
 use Rattle.dock.specs.Reclaim.{reclaim_found}
 use Rattle.dock.specs.declared.Endpoint.{Endpoint}
 use Rattle.dock.specs.declared.ReclaimedOne.{ReclaimedOne}

@@ -2,7 +2,6 @@
 use Rattle.std.specs.Prelude.{ℕ, ◌+◌, Bool, ◌&&◌, ◌||◌, eqb, leb, ltb}
 use Rattle.sizes.specs.Sizes.{packet_count, isoch}
 use Rattle.records.specs.Records.{in_flight}
-use Rattle.finished.specs.declared.Finished.TheVariants as place
 use Rattle.records.specs.declared.Record.{Record}
 
 -- A record in flight "with a place above L-2 or over 64 packets".

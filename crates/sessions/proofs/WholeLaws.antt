@@ -1,6 +1,6 @@
 -- The line of a request that is admitted makes all of its stores: it leaves the endpoint, the ring and every table as the whole submission does in one
 -- call, and nothing is under way afterwards (`line_is_whole`, `line_settles`). Assumes nothing.
-use Prim.Native.Nat.{ℕ, zero, suc, ◌-◌, ◌≤◌}
+use Prim.Native.Nat.{ℕ, zero, suc, ◌≤◌}
 use mathlib.Core.Bool.{Bool, true, false, ◌||◌, false≢true}
 use mathlib.Core.List.{List}
 use mathlib.Core.Path.{◌≡◌, refl, sym, ap, ◌∙◌}

@@ -2,7 +2,6 @@
 // same by the same name in specs/Sizes.antt, for the definitions (a slot id is a u8, so that its largest needs no constant). No function.
 #![tactic(auto)]
 
-
 // "Slots L: 3 to 4,096."
 pub const FEWEST_SLOTS: usize = 3;
 

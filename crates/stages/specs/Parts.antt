@@ -3,7 +3,6 @@ use Rattle.std.specs.Prelude.{ℕ, List}
 use Rattle.finished.specs.Finished.{finished_at}
 use Rattle.records.specs.Records.{recorded_word, set_word}
 use Rattle.finished.specs.declared.Finished.{Finished}
-use Rattle.finished.specs.declared.Finished.TheVariants as place
 use Rattle.records.specs.declared.Record.{Record}
 use Rattle.dock.specs.Reclaim.{status_by, stage_by, after_stage, recorded_by, status_place}
 use Rattle.dock.specs.declared.Endpoint.{Endpoint}

@@ -1,5 +1,5 @@
 -- One TRB with the current cycle, and a deferred TD.
-use Rattle.std.specs.Prelude.{ℕ, Bool, true, false, List, eqb, length}
+use Rattle.std.specs.Prelude.{ℕ, Bool, true, false, List, eqb}
 use Rattle.base.specs.First.{pick}
 use Rattle.trb.specs.declared.Trb.{Trb}
 use Rattle.ring.specs.Ring.{ring_by}

@@ -1,12 +1,12 @@
 -- A walk on its way: the turns that are left give what the whole walk gives. Assumes nothing.
-use Rattle.std.proofs.Common.{◌≡◌, ℕ, zero, suc, ◌+◌, ◌-◌, ◌*◌, ◌<◌, ◌≤◌, List, length, get_or, refl, sym, ap, ◌∙◌, arith}
+use Rattle.std.proofs.Common.{◌≡◌, ℕ, zero, suc, ◌*◌, ◌<◌, ◌≤◌, List, length, get_or, refl, sym, ap, ◌∙◌, arith}
 use Rattle.std.proofs.Math.ListN.{set, length-set}
 use Rattle.finished.specs.Finished.{finished_at}
 use Rattle.packets.specs.declared.Packet.{Packet}
 use Rattle.marking.specs.declared.Standing.{Standing}
 use Rattle.marking.specs.declared.Turned.{Turned}
 use Rattle.marking.specs.declared.Block.{Block}
-use Rattle.marking.specs.Marking.{Fine, Walked, begin_of, turns, turn_at, turn_of, nowhere, walked, standing_at}
+use Rattle.marking.specs.Marking.{Fine, Walked, begin_of, turns, turn_of, nowhere, walked, standing_at}
 use Rattle.marking.proofs.WalkLaws.{left_turns, Kept, turns_end, turns_on, turn_keeps, some_left, begin_fine, begin_left}
 
 -- So many turns, from the packets ps and the standing s on, give what the whole walk over `packets` gives; while s stands before its end, its places lie in

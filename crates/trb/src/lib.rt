@@ -4,7 +4,6 @@
 // specs/Layouts.antt has the layouts, field by field, with the standard's section numbers. specs/Cycle.antt has the standard's cycle rule.
 #![tactic(auto)]
 
-
 // The four words of a TRB or of an event.
 #[derive(Clone, Copy)]
 pub struct Words {

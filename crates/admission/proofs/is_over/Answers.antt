@@ -1,5 +1,5 @@
 -- `is_over` meets its contract. The loop's invariant: the lengths passed are within the limit, and the sum is theirs. Assumes nothing.
-use Prim.Native.Nat.{◌-◌, ◌≤◌}
+use Prim.Native.Nat.{◌≤◌}
 use native.Mathlib.Omega.{arith}
 use Rattle.base.proofs.Decide.{if_so, if_not, by_ltb}
 use Rattle.sizes.specs.Sizes.{packet_count}

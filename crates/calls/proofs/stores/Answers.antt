@@ -1,5 +1,5 @@
 -- `stores` meets its contract. The loop's invariant: the stores that are left, from the endpoint and the tables as they stand, are those that were to be made. Assumes nothing.
-use Prim.Native.Nat.{ℕ, ◌-◌}
+use Prim.Native.Nat.{ℕ}
 use mathlib.Core.Path.{◌≡◌, refl, sym, ap, ◌∙◌}
 use native.Mathlib.Omega.{arith}
 use borrow.Author.Tests.{not-true, not-false}

@@ -1,5 +1,4 @@
 -- `stores` meets its contract. The loop's invariant: the stores that are left, from the endpoint and the tables as they stand, are those that were to be made. Assumes nothing.
-use Prim.Native.Nat.{◌-◌}
 use mathlib.Core.Path.{◌≡◌}
 use lib.ListN.{length}
 use Rattle.calls.specs.Calls.{stores}

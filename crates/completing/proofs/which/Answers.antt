@@ -1,7 +1,6 @@
 -- `completing::which` meets its contract: the tests one after the other answer the first that holds. Assumes nothing.
 use mathlib.Core.Path.{refl}
 use Rattle.base.proofs.Chosen.{folded}
-use Rattle.base.proofs.Decide.{fails}
 use Rattle.dock.specs.Reclaim.{complete_tests}
 use Rattle.completing.proofs.which.Goals as goal
 

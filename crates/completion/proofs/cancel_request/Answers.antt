@@ -1,7 +1,7 @@
 -- `completion::cancel_request` meets its contract: refused with the tables as they are, or the record marked. Assumes nothing.
-use mathlib.Core.Path.{sym, ◌∙◌, ◌≡◌}
+use mathlib.Core.Path.{sym, ◌∙◌}
 use borrow.Author.Tests.{ne_eqb}
-use Rattle.dock.specs.Cancel.{cancel_no, cancel}
+use Rattle.dock.specs.Cancel.{cancel}
 use Rattle.refusal.proofs.CallLaws.{cancel_sized}
 use Rattle.completion.proofs.cancel_request.Goals as goal
 

@@ -1,9 +1,8 @@
 -- `completion::hand_over` meets its contract: refused with the table as it is, or the place filled. Assumes nothing.
-use mathlib.Core.Path.{sym, ◌∙◌, ◌≡◌}
+use mathlib.Core.Path.{sym, ◌∙◌}
 use native.Mathlib.Omega.{arith}
 use borrow.Author.Tests.{ne_eqb}
-use lib.ListN.{length}
-use Rattle.dock.specs.HandOver.{hand_over_no, hand_over}
+use Rattle.dock.specs.HandOver.{hand_over}
 use Rattle.refusal.proofs.CallLaws.{handed}
 use Rattle.completion.proofs.hand_over.Goals as goal
 

@@ -1,6 +1,6 @@
 -- `put_packets` meets its contract. The loop's invariant: the packets passed are written and stored, and what is left is what was to be done. Assumes
 -- nothing.
-use Rattle.std.proofs.Common.{◌≡◌, ℕ, ◌-◌, length, refl, ap, ◌∙◌, arith}
+use Rattle.std.proofs.Common.{◌≡◌, ℕ, length, refl, ap, ◌∙◌, arith}
 use lib.Seq.{paste, paste-zero}
 use Rattle.requests.proofs.LengthLaws.{copied, copied_length}
 use Rattle.isoch.proofs.PacketLaws.{packet_next, packets_done, all_left}

@@ -1,13 +1,13 @@
 -- `scan` meets its contract. The loop's invariant: what is left to scan, from the line as it stands, is what was to be scanned. Assumes nothing.
 use Rattle.lines.proofs.ScanLaws.{scan_ends, scan_goes}
-use Prim.Native.Nat.{ℕ, ◌+◌, ◌-◌}
+use Prim.Native.Nat.{ℕ, ◌+◌}
 use mathlib.Core.Bool.{true}
 use mathlib.Core.List.{List}
 use mathlib.Core.Path.{refl, sym, ap, ◌∙◌}
 use native.Mathlib.Omega.{arith}
 use lib.ListN.{drop, drop_of_length-le}
 use Rattle.lines.specs.declared.Reading.{Reading}
-use Rattle.lines.specs.Reader.{finish, scan}
+use Rattle.lines.specs.Reader.{scan}
 use Rattle.lines.proofs.scan.Goals as goal
 
 pub loop-at-init : goal.loop-at-init

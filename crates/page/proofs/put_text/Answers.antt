@@ -1,5 +1,5 @@
 -- `put_text` meets its contract. The loop's invariant: what is left of the text, put behind what stands, gives the whole page. Assumes nothing.
-use Prim.Native.Nat.{suc, ◌-◌, ◌<◌}
+use Prim.Native.Nat.{suc, ◌<◌}
 use mathlib.Core.Path.{refl, sym, ap, ◌∙◌}
 use native.Mathlib.Numerals.{add-one}
 use native.Mathlib.Omega.{arith}

@@ -21,7 +21,7 @@ reclaim_flying-requires c =
     let v : Record = c.record_at-v.result in
     -- the record is in flight, and not misplaced
     let f : (v.place + 1 < slots) × (v.kind ≡ isoch → v.count ≤ packet_count) =
-        well_placed slots v (ap (misplaced slots) c.record_at-v.ensures ∙ c.requires.3) c.if-v-eq-IN_FLIGHT.true in
+    well_placed slots v (ap (misplaced slots) c.record_at-v.ensures ∙ c.requires.3) c.if-v-eq-IN_FLIGHT.true in
     let p = c.requires in (
       record { least = s.least; most = s.most; table = s.table; place = f.0; held = s.held },
       p.1,

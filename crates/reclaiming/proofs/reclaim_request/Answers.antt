@@ -3,7 +3,7 @@ use mathlib.Core.Bool.{false}
 use mathlib.Core.Path.{sym, ap, ◌∙◌, ◌≡◌}
 use borrow.Author.Tests.{ne_eqb}
 use lib.ListN.{length}
-use Rattle.dock.specs.Reclaim.{bad_record, reclaim_no, reclaim_found, reclaim}
+use Rattle.dock.specs.Reclaim.{bad_record, reclaim_found, reclaim}
 use Rattle.dock.specs.declared.ReclaimedOne.{ReclaimedOne}
 use Rattle.ids.specs.Lookup.{find_in}
 use Rattle.reclaiming.specs.Parts.{reclaim_at}
@@ -25,10 +25,10 @@ reclaim_at-requires c =
     let a = c.args in
     let told = (sym c.in-At.is ∙ c.find_id-found.ensures) in
     let tests : (Shown a.e.shape.slots (length a.finished.now) 0 0)
-            × (length a.records.now ≡ records_size)
-            × (length a.packets.now ≡ packets_size)
-            × (bad_record a.e a.records.now (find_in a.records.now a.e.account.occupancy a.id) ≡ false) =
-        reclaimable _ _ _ _ _ (sym c.reclaim_no-no.ensures ∙ c.if-no-ne0.false) in
+    × (length a.records.now ≡ records_size)
+    × (length a.packets.now ≡ packets_size)
+    × (bad_record a.e a.records.now (find_in a.records.now a.e.account.occupancy a.id) ≡ false) =
+    reclaimable _ _ _ _ _ (sym c.reclaim_no-no.ensures ∙ c.if-no-ne0.false) in
     let s = tests.0 in (
       record {
         least = s.least;

@@ -1,5 +1,4 @@
 -- `retiring::retire_all` meets its contract. The invariant is the definition at r; the measure is what is left of the records. Assumes nothing.
-use Prim.Native.Nat.{◌-◌}
 use mathlib.Core.Path.{◌≡◌, refl, ◌∙◌}
 use native.Mathlib.Omega.{arith}
 use Rattle.sizes.specs.Sizes.{record_count}

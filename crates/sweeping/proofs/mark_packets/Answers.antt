@@ -1,13 +1,6 @@
 -- `mark_packets` meets its contract: the loop makes the turns of `walked`, one by one. Assumes nothing.
-use Rattle.std.proofs.Common.{◌≡◌, ℕ, zero, suc, ◌+◌, ◌<◌, ◌≤◌, List, length, refl, sym, ap, ◌∙◌, subst, arith}
-use Rattle.std.proofs.Math.ListN.{length-set}
-use Rattle.packets.specs.declared.Packet.{Packet}
-use Rattle.marking.specs.declared.Standing.{Standing}
-use Rattle.marking.specs.declared.Turned.{Turned}
-use Rattle.marking.specs.declared.Block.{Block}
-use Rattle.marking.specs.Marking.{Fine, Walked, begin_of, turns, turn_at, turn_of, walked, standing_at}
-use Rattle.marking.proofs.WalkLaws.{left_turns, Kept, turn_keeps, begin_fine, begin_left}
-use Rattle.sweeping.proofs.WalkedLaws.{Walks, walks_begun, walks_on, walks_ended, walks_fewer}
+use Rattle.std.proofs.Common.{arith}
+use Rattle.sweeping.proofs.WalkedLaws.{walks_begun, walks_on, walks_ended, walks_fewer}
 use Rattle.sweeping.proofs.mark_packets.Goals as goal
 
 pub loop-s-init : goal.loop-s-init

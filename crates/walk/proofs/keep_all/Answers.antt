@@ -1,5 +1,5 @@
 -- `walk::keep_all` meets its contract. The loop's invariant is the definition at i. Assumes nothing.
-use Prim.Native.Nat.{ℕ, ◌-◌}
+use Prim.Native.Nat.{ℕ}
 use mathlib.Core.List.{List}
 use mathlib.Core.Path.{refl, ap, ◌∙◌, ◌≡◌}
 use native.Mathlib.Omega.{arith}

@@ -1,5 +1,4 @@
 -- `walk::load` meets its contract. The loop's invariant is the definition at i. Assumes nothing.
-use Prim.Native.Nat.{◌-◌}
 use mathlib.Core.List.{List}
 use mathlib.Core.Path.{refl, ap, ◌∙◌, ◌≡◌}
 use native.Mathlib.Omega.{arith}

@@ -1,5 +1,5 @@
 -- `walk::total_of` meets its contract. The loop's invariant is the definition at i, and 31 bits a packet. Assumes nothing.
-use Prim.Native.Nat.{ℕ, ◌+◌, ◌-◌, ◌^◌, ◌<◌}
+use Prim.Native.Nat.{ℕ, ◌+◌, ◌^◌, ◌<◌}
 use mathlib.Core.Path.{ap, ◌∙◌, ◌≡◌}
 use native.Mathlib.Omega.{arith}
 use Rattle.dock.specs.Reclaim.{total}

@@ -1,5 +1,5 @@
 -- `walk` meets its contract. The loop's invariant: the steps that are left, from where the controller stands, are those that were to be taken. Assumes nothing.
-use Prim.Native.Nat.{ℕ, ◌-◌}
+use Prim.Native.Nat.{ℕ}
 use mathlib.Core.Path.{◌≡◌, refl, sym, ap, ◌∙◌}
 use native.Mathlib.Omega.{arith}
 use borrow.Author.Tests.{not-true, not-false}

@@ -1,5 +1,4 @@
 -- `walk` meets its contract. The loop's invariant: the steps that are left, from where the controller stands, are those that were to be taken. Assumes nothing.
-use Prim.Native.Nat.{◌-◌}
 use mathlib.Core.Path.{◌≡◌}
 use lib.ListN.{length}
 use Rattle.bench.specs.Walk.{walk}

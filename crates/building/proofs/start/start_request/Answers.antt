@@ -1,13 +1,12 @@
 -- `start_request` meets its contract: one check, one act, one answer. Assumes nothing.
-use mathlib.Core.Path.{◌≡◌, sym, ap, ◌∙◌}
+use mathlib.Core.Path.{sym, ap, ◌∙◌}
 use borrow.Author.Tests.{ne_eqb}
-use lib.ListN.{length}
 use Prim.Native.Nat.{ℕ}
 use mathlib.Core.List.{List}
 use Rattle.dock.specs.declared.Changed.{Changed}
 use Rattle.dock.specs.declared.Endpoint.{Endpoint}
 use Rattle.dock.specs.declared.Outcome.TheVariants.{Done}
-use Rattle.dock.specs.Start.{start_no, start}
+use Rattle.dock.specs.Start.{start}
 use Rattle.starting.specs.Taken.{begun_with}
 use Rattle.admission.proofs.StartLaws.{admitted}
 use Rattle.building.proofs.start.start_request.Goals as goal

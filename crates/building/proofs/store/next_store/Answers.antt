@@ -1,8 +1,7 @@
 -- `next_store` meets its contract: one check, one act. Assumes nothing.
-use mathlib.Core.Path.{◌≡◌, sym, ◌∙◌}
+use mathlib.Core.Path.{sym, ◌∙◌}
 use borrow.Author.Tests.{ne_eqb}
-use lib.ListN.{length}
-use Rattle.dock.specs.NextStore.{store_no, store}
+use Rattle.dock.specs.NextStore.{store}
 use Rattle.storing.specs.Stored.{stored_with, stored_by}
 use Rattle.storing.proofs.StoreLaws.{ready}
 use Rattle.building.proofs.store.next_store.Goals as goal

@@ -1,7 +1,5 @@
 -- `submit_request` meets its contract: the refusals, what the start takes, and the stores. Assumes nothing.
-use mathlib.Core.Path.{◌≡◌, sym, ◌∙◌}
-use lib.ListN.{length}
-use Rattle.dock.specs.Submit.{submit_no}
+use mathlib.Core.Path.{sym, ◌∙◌}
 use Rattle.building.proofs.SubmitLaws.{refused, takes, sendable, whole}
 use Rattle.building.proofs.submit.submit_request.Goals as goal
 

@@ -1,5 +1,4 @@
 -- `clear64` meets its contract. The loop's invariant: the words passed are 0. Assumes nothing.
-use Prim.Native.Nat.{◌-◌}
 use native.Mathlib.Omega.{arith}
 use lib.ListN.{length-set}
 use Rattle.making.proofs.ZeroLaws.{begun, more, all}

@@ -6,8 +6,6 @@ use native.Mathlib.Omega.{arith}
 use lib.ListN.{length, length-set}
 use Rattle.base.proofs.Lent.{all_stored}
 use Rattle.told.specs.Answer.{spoken}
-use Rattle.told.proofs.answer.tell.Reads as reads
-use Rattle.told.proofs.answer.tell.Lts as lts
 use Rattle.told.proofs.answer.tell.Goals as goal
 use Rattle.told.proofs.answer.tell.Goals.{Start}
 
