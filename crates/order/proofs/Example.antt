@@ -13,7 +13,7 @@ use Rattle.trb.specs.Layouts.{words_at, put_words}
 use Rattle.trb.specs.declared.Words.{Words}
 use Rattle.order.specs.Flat.{flat, set_slot, set_cycle, link_type, zeroed}
 use Rattle.order.proofs.Order.{run_play}
-use Rattle.order.specs.Model.{Slots, settle, Allowed, Run, at_first, Entry, Td, State, idle, made, begin, store, step, free, stop, resume, play, steps, Move, to_begin, to_store, to_step, to_free, to_stop_lem, to_resume}
+use Rattle.order.specs.Model.{Slots, settle, Allowed, Run, at_first, Entry, Td, State, idle, made, begin, store, step, free, stop, resume, play, steps, Move, to_begin, to_store, to_step, to_free, to_stop, to_resume}
 
 abbrev words : ℕ → ℕ → ℕ → ℕ → Words
 words a b c d = record { w0 = a; w1 = b; w2 = c; w3 = d }
@@ -170,7 +170,7 @@ lost = (refl, refl)
 -- Stop and resume: the first request is not consumed before the stop, and is taken out. What comes after the resume is consumed
 resumed : State S
 unfolding play made begin store step free stop resume settle cycle_of type_of words_at put put_words set_slot set_cycle link_type
-resumed = play (made S (replicate 20 0)) (to_begin bulk ∷ to_store ∷ to_stop_lem ∷ to_step ∷ to_free 1 ∷ to_resume ∷ to_step ∷ one)
+resumed = play (made S (replicate 20 0)) (to_begin bulk ∷ to_store ∷ to_stop ∷ to_step ∷ to_free 1 ∷ to_resume ∷ to_step ∷ one)
 
 goes_on : (resumed.consumed ≡ entry 1 (words 0x30000 0 64 0x425) ∷ []) × (resumed.admitted ≡ entry 1 (words 0x30000 0 64 0x425) ∷ []) × (resumed.outstanding ≡ 0)
 unfolding resumed

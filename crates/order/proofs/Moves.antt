@@ -11,7 +11,7 @@ use lib.Dec.{eqb}
 use lib.ListN.{length, take, length-append}
 use lib.Seq.{take-append_seam, append_snoc}
 use Rattle.order.specs.Model.{Slots, Position, choose, advance, around, next, Entry, Td, Work, idle, opening, busy, State, placed, layout, Plain, Zeroed, made}
-use Rattle.order.specs.Model.{leaves, store_as, store, moved, step_as, step, starts, begin, free, stop, resume, MayBegin, MayFree, Move, to_begin, to_store, to_step, to_free, to_stop_lem, to_resume, act, May, Run}
+use Rattle.order.specs.Model.{leaves, store_as, store, moved, step_as, step, starts, begin, free, stop, resume, MayBegin, MayFree, Move, to_begin, to_store, to_step, to_free, to_stop, to_resume, act, May, Run}
 use Rattle.order.specs.Model as Model
 use Rattle.order.proofs.Index.{pos, eqb-true, eqb-false}
 use Rattle.order.proofs.Invariant.{Good, producer_is, put_visible, hide, put_hidden, reveal, put_link, cut, consume, follow, View, waits, follows, consumes, view, at_first}
@@ -588,7 +588,7 @@ module _ {K : ℕ} {S : Slots K} (some_slot : 0 < K) where
   act_keeps s i to_store may = store_keeps some_slot s i
   act_keeps s i to_step may = step_keeps some_slot s i
   act_keeps s i (to_free n) may = free_keeps s i n may
-  act_keeps s i to_stop_lem may = stop_keeps s i may
+  act_keeps s i to_stop may = stop_keeps s i may
   act_keeps s i to_resume may = resume_keeps s i may
 
   pub keeps : {s : State S} → Run s → Inv s

@@ -133,7 +133,7 @@ module _ {K : ℕ} (S : Slots K) where
     to_store : Move
     to_step : Move
     to_free : ℕ → Move
-    to_stop_lem : Move
+    to_stop : Move
     to_resume : Move
 
 -- ---- what each move does
@@ -263,7 +263,7 @@ module _ {K : ℕ} {S : Slots K} where
   act s to_store = store s
   act s to_step = step s
   act s (to_free n) = free s n
-  act s to_stop_lem = stop s
+  act s to_stop = stop s
   act s to_resume = resume s
 
   -- ---- when a move may be made
@@ -285,7 +285,7 @@ module _ {K : ℕ} {S : Slots K} where
   May s to_store = Unit {0}
   May s to_step = Unit {0}
   May s (to_free n) = MayFree s n
-  May s to_stop_lem = s.work ≡ idle
+  May s to_stop = s.work ≡ idle
   May s to_resume = s.live ≡ false
 
   -- ---- runs
