@@ -56,6 +56,7 @@ pub fn free_id(records: &[u64], occupancy: Occupancy, next: u64) -> Taken
 }
 
 // The held record with the id, the lowest of several.
+#[tactic(auto, unfolding(crate::specs::Free::held_by))]
 pub fn find_id(records: &[u64], occupancy: Occupancy, id: u64) -> Lookup
     requires { length records.now ≡ records_size }
     ensures { result ≡ find_in records.now occupancy id }

@@ -52,6 +52,7 @@ fn reclaim_flying(
 }
 
 // Record r, by its state. A stopped one's TRBs left flight when it was retired.
+#[tactic(auto, unfolding(crate::specs::Parts::reclaim_at))]
 fn reclaim_at(
     e: Endpoint,
     finished: &[u32],
