@@ -1,16 +1,15 @@
-//! Where the static library is: the folder that THNAOLUPS_LIB_DIR names, else target/staticlib of the repository, where `rt staticlib dock_c`
-//! writes it.
+//! Where the static library is: the folder that THNAOLUPS_LIB_DIR names, else crates/dock_c/out of the repository, where `rt lib` writes it.
 use std::{env, path::PathBuf};
 
 fn main() {
     let folder = match env::var_os("THNAOLUPS_LIB_DIR") {
         Some(folder) => PathBuf::from(folder),
-        None => PathBuf::from(env!("CARGO_MANIFEST_DIR")).join("../../target/staticlib"),
+        None => PathBuf::from(env!("CARGO_MANIFEST_DIR")).join("../../crates/dock_c/out"),
     };
     let archive = folder.join("libdock_c.a");
     if !archive.exists() {
         println!(
-            "cargo:warning=no {}: `rt staticlib dock_c` writes it, in the repository",
+            "cargo:warning=no {}: `rt lib` writes it, in crates/dock_c of the repository",
             archive.display()
         );
     }

@@ -1,4 +1,4 @@
-//! DOCK_C names the folder of libdock_c.a, which `rt staticlib dock_c` writes.
+//! DOCK_C names the folder of libdock_c.a, which `rt lib` writes in crates/dock_c.
 use std::env;
 
 fn main() {

@@ -1,6 +1,6 @@
 /* Document 01's worked session in C: a control request, its event, and its reclaim. Writes "done 1 18 1".
  *
- *     cc -I include examples/worked.c ../../target/staticlib/libdock_c.a -o worked
+ *     cc -I include examples/worked.c ../../crates/dock_c/out/libdock_c.a -o worked
  */
 #include "thnaolups.h"
 #include <stdio.h>

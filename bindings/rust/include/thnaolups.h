@@ -1,4 +1,4 @@
-/* thnaolups.h: the calls of the static library libdock_c.a (`rt staticlib dock_c`).
+/* thnaolups.h: the calls of the static library libdock_c.a (`rt lib` in crates/dock_c).
  *
  * An endpoint is THN_STATE_WORDS words that the caller keeps and lends to each call; a request is THN_REQUEST_WORDS words, an answer the number
  * that is returned and, for the calls with an `answer`, THN_ANSWER_WORDS words. Four tables are lent beside them:
