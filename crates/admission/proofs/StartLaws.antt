@@ -1,4 +1,5 @@
 -- The start of a submission: its tests as facts. Assumes nothing.
+use Rattle.std.specs.Prelude.{Some}
 use Prim.Native.Nat.{ℕ, ◌+◌, ◌-◌, ◌≤◌, ◌<◌}
 use mathlib.Core.Bool.{Bool, true, false, ◌||◌, and-eq-true_iff}
 use mathlib.Core.List.{List}
@@ -10,7 +11,6 @@ use lib.ListN.{length}
 use Rattle.base.proofs.Chosen.{quiet}
 use Rattle.sizes.specs.Sizes.{most_slots, capacity, record_count, packet_count, packets_size}
 use Rattle.mask.specs.Occupancy.{lowest, Tells}
-use Rattle.mask.specs.declared.Found.TheVariants.{At}
 use Rattle.mask.specs.declared.Occupancy.{Occupancy}
 use Rattle.mask.proofs.OccupancyLaws.{lowest_tells}
 use Rattle.dock.specs.RowOne.{fits_with}
@@ -24,7 +24,7 @@ use Rattle.checks.proofs.Laws.{fit, fit_with}
 use Rattle.admission.specs.Admitted.{Admitted}
 
 -- The record that is found is one of the table's.
-pub found_within : (o : Occupancy) {i : ℕ} → At i ≡ lowest o → i < record_count
+pub found_within : (o : Occupancy) {i : ℕ} → Some i ≡ lowest o → i < record_count
 found_within o e = (subst (Tells o) (sym e) (lowest_tells o)).within
 
 -- ---- where no test holds

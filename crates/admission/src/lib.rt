@@ -6,44 +6,34 @@ ghost use Rattle.mask.specs.Occupancy.{lowest};
 ghost use Rattle.sizes.specs.Sizes.{capacity, packet_count, packets_size};
 ghost use Rattle.dock.specs.RowOne.{fits_with};
 ghost use Rattle.dock.specs.Requests.{required};
+ghost use Rattle.dock.specs.Refusals.{verdict};
 ghost use Rattle.dock.specs.Start.{crowded, sum_of, some_over, too_long, is_full, beyond, start_no};
 
-use dock::{Endpoint, Request, What};
-use mask::{Found, Occupancy};
+use dock::{Endpoint, Refusal, Request, What, refuse};
+use mask::Occupancy;
 
 // Row 1: the endpoint, its records and its packets fit.
 fn is_unfit(e: Endpoint, records: &[u64], packets: usize) -> bool
     ensures { result ≡ not (fits_with e records.now && eqb packets packets_size) }
 {
-    if !checks::fits_with(e, records) {
-        return true;
-    }
-    packets != sizes::PACKETS_SIZE
+    !(checks::fits_with(e, records) && packets == sizes::PACKETS_SIZE)
 }
 
 // L-2: what a ring of so many slots takes at most.
 fn most_of(slots: usize) -> u64
     ensures { result ≡ capacity slots }
 {
-    if slots < 2 {
-        return 0;
-    }
-    (slots - 2) as u64
+    slots.saturating_sub(2) as u64
 }
 
 // Row 2, capacity: "outstanding + required above L-2".
+#[tactic(auto, unfolding(dock::specs::Start::crowded))]
 fn is_crowded(e: Endpoint, request: Request, count: usize) -> bool
     ensures { result ≡ crowded e.shape.slots e.account.outstanding (required request count) }
 {
     let most = most_of(e.shape.slots);
     let more = requests::required_of(request, count);
-    if most < more {
-        return true;
-    }
-    if most - more < e.account.outstanding {
-        return true;
-    }
-    false
+    most < more || most - more < e.account.outstanding
 }
 
 // Row 3 of an ISO request: "over 64 packets, or sum over buffer", or one packet too long.
@@ -54,33 +44,24 @@ fn is_over(size: u64, lengths: &[u64]) -> bool
         return true;
     }
     let mut sum: u64 = 0;
-    let mut i: usize = 0;
-    while i < lengths.len() {
-        let n = lengths[i];
+    for &n in lengths {
         if sizes::LONGEST < n {
             return true;
         }
         sum += n;
-        i += 1;
     }
     size < sum
 }
 
 // Row 3: "a data length limit above broken, over 64 packets, or sum over buffer".
+#[tactic(auto, unfolding(dock::specs::Start::too_long))]
 fn is_too_long(request: Request, lengths: &[u64]) -> bool
     ensures { result ≡ too_long request.what request.length lengths.now }
 {
-    let what = request.what;
-    match what {
-        What::Control {
-            request_type: _,
-            request: _,
-            value: _,
-            index: _,
-        } => sizes::LONGEST_CONTROL < request.length,
-        What::Bulk { incoming: _ } => sizes::LONGEST < request.length,
-        What::Interrupt { incoming: _ } => sizes::LONGEST < request.length,
-        What::Isoch { incoming: _ } => is_over(request.length, lengths),
+    match request.what {
+        What::Control { .. } => sizes::LONGEST_CONTROL < request.length,
+        What::Bulk { .. } | What::Interrupt { .. } => sizes::LONGEST < request.length,
+        What::Isoch { .. } => is_over(request.length, lengths),
     }
 }
 
@@ -88,44 +69,33 @@ fn is_too_long(request: Request, lengths: &[u64]) -> bool
 fn is_full(occupancy: Occupancy) -> bool
     ensures { result ≡ is_full (lowest occupancy) }
 {
-    let found = mask::lowest(occupancy);
-    match found {
-        Found::At(_) => false,
-        Found::Full => true,
-    }
+    occupancy.lowest().is_none()
 }
 
 // Row 5, document 02: "length is above 0 and address + length - 1 exceeds the mask, the sum exact".
+#[tactic(auto, unfolding(dock::specs::Start::beyond))]
 fn is_beyond(mask: u64, request: Request) -> bool
     ensures { result ≡ beyond mask request.address request.length }
 {
-    if request.length == 0 {
-        return false;
-    }
-    if mask < request.address {
-        return true;
-    }
-    if mask - request.address < request.length - 1 {
-        return true;
-    }
-    false
+    request.length > 0 && (mask < request.address || mask - request.address < request.length - 1)
 }
 
 // "Order: 1, 12, then for a submission 2 (reset), 2 (capacity), 3, 4, 5."
+#[tactic(auto, unfolding(dock::specs::Start::start_no, dock::specs::Start::start_tests))]
 pub fn start_no(
     e: Endpoint,
     records: &[u64],
     packets: usize,
     request: Request,
     lengths: &[u64],
-) -> u32
-    ensures { result ≡ start_no e records.now packets request lengths.now }
+) -> Result<(), Refusal>
+    ensures { result ≡ verdict (start_no e records.now packets request lengths.now) }
 {
-    let no = base::earlier(0, is_unfit(e, records, packets), 1);
-    let no = base::earlier(no, e.work.busy, 12);
-    let no = base::earlier(no, e.flags.reset, 2);
-    let no = base::earlier(no, is_crowded(e, request, lengths.len()), 2);
-    let no = base::earlier(no, is_too_long(request, lengths), 3);
-    let no = base::earlier(no, is_full(e.account.occupancy), 4);
-    base::earlier(no, is_beyond(e.who.mask, request), 5)
+    refuse(is_unfit(e, records, packets), Refusal::Unfit)?;
+    refuse(e.work.busy, Refusal::Busy)?;
+    refuse(e.flags.reset, Refusal::QueueFull)?;
+    refuse(is_crowded(e, request, lengths.len()), Refusal::QueueFull)?;
+    refuse(is_too_long(request, lengths), Refusal::TooLong)?;
+    refuse(is_full(e.account.occupancy), Refusal::RecordsFull)?;
+    refuse(is_beyond(e.who.mask, request), Refusal::OutOfReach)
 }

@@ -1,7 +1,7 @@
 // The lines that answers are written as, each put on a page.
 #![tactic(auto)]
 
-ghost use Rattle.std.specs.Prelude.{◌≡◌, ◌≤◌, ◌<◌, min};
+ghost use Rattle.std.specs.Prelude.{◌≡◌, ◌≤◌, ◌<◌};
 ghost use Rattle.page.specs.Page.{put_all};
 ghost use Rattle.sizes.specs.Sizes.{packet_count};
 ghost use Rattle.phrases.specs.Text.{outcome_line, cut_line, stored_lines};
@@ -9,69 +9,76 @@ ghost use Rattle.phrases.specs.Text.{submitted_line, taken_line, counted_at, len
 ghost use Rattle.phrases.specs.Text.{commanded_line, pointed_line, state_rest, state_line, stands_line};
 
 use controller::Consumer;
-use dock::{
-    Command, Completion, Endpoint, Outcome, Pointed, Reclaimed, Resetting, Stored, Submitted, Taken,
-};
+use dock::{Completion, Endpoint, Reclaimed, Refusal, ResetCommands, Stored, Submitted};
+use packets::Packet;
+use page::Page;
+use ring::Pointer;
 use trb::Words;
 
 // A word by itself where a call is done.
-pub fn put_outcome(out: &mut [u8], at: usize, name: &[u8], answer: Outcome) -> usize
-    ensures { (result, out.new) ≡ put_all (at, out.old) (outcome_line name.now answer) }
+#[tactic(auto, unfolding(phrases::specs::Text::outcome_line))]
+pub fn put_outcome(page: &mut Page, name: &[u8], answer: Result<(), Refusal>)
+    ensures { page.new ≡ put_all page.old (outcome_line name.now answer) }
 {
     match answer {
-        Outcome::Done => phrases::put_name(out, at, name),
-        Outcome::Refused(number) => phrases::put_no(out, at, number),
+        Ok(()) => phrases::put_name(page, name),
+        Err(refusal) => phrases::put_no(page, refusal.number()),
     }
 }
 
 // `cut`: the id.
-pub fn put_cut(out: &mut [u8], at: usize, id: u64, answer: Outcome) -> usize
-    ensures { (result, out.new) ≡ put_all (at, out.old) (cut_line id answer) }
+#[tactic(auto, unfolding(phrases::specs::Text::cut_line))]
+pub fn put_cut(page: &mut Page, id: u64, answer: Result<(), Refusal>)
+    ensures { page.new ≡ put_all page.old (cut_line id answer) }
 {
     match answer {
-        Outcome::Done => phrases::put_number(out, at, b"cut", id),
-        Outcome::Refused(number) => phrases::put_no(out, at, number),
+        Ok(()) => phrases::put_number(page, b"cut", id),
+        Err(refusal) => phrases::put_no(page, refusal.number()),
     }
 }
 
 // `store`: the slot and its words; behind the last one `bell`.
-pub fn put_stored(out: &mut [u8], at: usize, ring: &[u32], answer: Stored) -> usize
-    ensures { (result, out.new) ≡ put_all (at, out.old) (stored_lines ring.now answer) }
+#[tactic(auto, using(page::proofs::PageLaws::put_both), unfolding(phrases::specs::Text::stored_lines))]
+pub fn put_stored(page: &mut Page, ring: &[u32], answer: Result<Stored, Refusal>)
+    ensures { page.new ≡ put_all page.old (stored_lines ring.now answer) }
 {
     match answer {
-        Stored::Slot(slot) => {
+        Ok(Stored::Slot(slot)) => {
             let w = controller::slot_words(ring, slot);
-            phrases::put_slot(out, at, b"store", slot, w)
+            phrases::put_slot(page, b"store", slot, w);
         }
-        Stored::Last { slot, id, bell } => {
+        Ok(Stored::Last { slot, id, bell }) => {
             let w = controller::slot_words(ring, slot);
-            let a = phrases::put_slot(out, at, b"store", slot, w);
-            phrases::put_bell(out, a, bell, id)
+            phrases::put_slot(page, b"store", slot, w);
+            phrases::put_bell(page, bell, id);
         }
-        Stored::Refused(number) => phrases::put_no(out, at, number),
+        Err(refusal) => phrases::put_no(page, refusal.number()),
     }
 }
 
-pub fn put_submitted(out: &mut [u8], at: usize, answer: Submitted) -> usize
-    ensures { (result, out.new) ≡ put_all (at, out.old) (submitted_line answer) }
+#[tactic(auto, unfolding(phrases::specs::Text::submitted_line))]
+pub fn put_submitted(page: &mut Page, answer: Result<Submitted, Refusal>)
+    ensures { page.new ≡ put_all page.old (submitted_line answer) }
 {
     match answer {
-        Submitted::Done { id, bell } => phrases::put_bell(out, at, bell, id),
-        Submitted::Refused(number) => phrases::put_no(out, at, number),
+        Ok(Submitted { id, bell }) => phrases::put_bell(page, bell, id),
+        Err(refusal) => phrases::put_no(page, refusal.number()),
     }
 }
 
 // `taken`: the slot.
-pub fn put_taken(out: &mut [u8], at: usize, answer: Taken) -> usize
-    ensures { (result, out.new) ≡ put_all (at, out.old) (taken_line answer) }
+#[tactic(auto, unfolding(phrases::specs::Text::taken_line))]
+pub fn put_taken(page: &mut Page, answer: Result<usize, Refusal>)
+    ensures { page.new ≡ put_all page.old (taken_line answer) }
 {
     match answer {
-        Taken::Place(slot) => phrases::put_number(out, at, b"taken", slot as u64),
-        Taken::Refused(number) => phrases::put_no(out, at, number),
+        Ok(slot) => phrases::put_number(page, b"taken", slot as u64),
+        Err(refusal) => phrases::put_no(page, refusal.number()),
     }
 }
 
 // What was counted for a packet.
+#[tactic(auto, unfolding(phrases::specs::Text::counted_at, packets::specs::Packets::packet_at))]
 fn counted(packets: &[u64], number: usize, k: usize) -> u64
     requires { k < packet_count }
     ensures { result ≡ counted_at packets.now number k }
@@ -80,136 +87,128 @@ fn counted(packets: &[u64], number: usize, k: usize) -> u64
         return 0;
     }
     let at = sizes::PACKET_COUNT * number + k;
-    if packets.len() <= at {
-        return 0;
-    }
-    packets::packet_of(packets[at]).actual as u64
+    let word = packets.get(at).copied().unwrap_or(0);
+    u64::from(Packet::from(word).actual)
 }
 
 // The lengths of a request's packets, one behind the other.
-fn put_lengths(out: &mut [u8], at: usize, packets: &[u64], number: usize, count: usize) -> usize
+#[tactic(auto, unfolding(phrases::specs::Text::lengths_text, page::specs::Page::put_all))]
+fn put_lengths(page: &mut Page, packets: &[u64], number: usize, count: usize)
     requires { count ≤ packet_count }
-    ensures { (result, out.new) ≡ put_all (at, out.old) (lengths_text count packets.now number 0) }
+    ensures { page.new ≡ put_all page.old (lengths_text count packets.now number 0) }
 {
-    let mut end = at;
-    let mut k: usize = 0;
-    while k < count {
-        let n = counted(packets, number, k);
-        end = page::put_decimal(out, end, n);
-        k += 1;
+    for k in 0..count {
+        page.put_decimal(counted(packets, number, k));
     }
-    end
-}
-
-// As many as a record has.
-fn at_most(n: usize) -> usize
-    ensures { (result ≡ min packet_count n) × (result ≤ packet_count) }
-{
-    if n < sizes::PACKET_COUNT {
-        return n;
-    }
-    sizes::PACKET_COUNT
 }
 
 // The lengths and the line's end.
-fn put_done(out: &mut [u8], at: usize, packets: &[u64], c: Completion) -> usize
-    ensures { (result, out.new) ≡ put_all (at, out.old) (done_line packets.now c) }
+#[tactic(auto, using(page::proofs::PageLaws::put_both), unfolding(phrases::specs::Text::done_line, phrases::specs::Text::numbers_text))]
+fn put_done(page: &mut Page, packets: &[u64], c: Completion)
+    ensures { page.new ≡ put_all page.old (done_line packets.now c) }
 {
-    let count = at_most(c.packets);
-    let a = page::put_text(out, at, b"done");
-    let b = page::put_decimal(out, a, c.id);
-    let d = page::put_decimal(out, b, c.length);
-    let f = page::put_flag(out, d, c.yes);
-    let g = put_lengths(out, f, packets, c.number, count);
-    page::put_end(out, g)
+    page.put_text(b"done");
+    page.put_decimal(c.id);
+    page.put_decimal(c.length);
+    page.put_flag(c.yes);
+    put_lengths(page, packets, c.number, c.packets.min(sizes::PACKET_COUNT));
+    page.put_end();
 }
 
-pub fn put_reclaimed(out: &mut [u8], at: usize, packets: &[u64], answer: Reclaimed) -> usize
-    ensures { (result, out.new) ≡ put_all (at, out.old) (reclaimed_line packets.now answer) }
+#[tactic(auto, unfolding(phrases::specs::Text::reclaimed_line))]
+pub fn put_reclaimed(page: &mut Page, packets: &[u64], answer: Result<Reclaimed, Refusal>)
+    ensures { page.new ≡ put_all page.old (reclaimed_line packets.now answer) }
 {
     match answer {
-        Reclaimed::Done(c) => put_done(out, at, packets, c),
-        Reclaimed::Cancelled => phrases::put_no(out, at, 7),
-        Reclaimed::Failed(code) => phrases::put_failed(out, at, code),
-        Reclaimed::Mismatch => phrases::put_no(out, at, 9),
-        Reclaimed::Nothing => phrases::put_no(out, at, 10),
-        Reclaimed::Refused(number) => phrases::put_no(out, at, number),
+        Ok(Reclaimed::Done(c)) => put_done(page, packets, c),
+        Ok(Reclaimed::Cancelled) => phrases::put_no(page, 7),
+        Ok(Reclaimed::Failed(code)) => phrases::put_failed(page, code),
+        Ok(Reclaimed::Mismatch) => phrases::put_no(page, 9),
+        Ok(Reclaimed::Nothing) => phrases::put_no(page, 10),
+        Err(refusal) => phrases::put_no(page, refusal.number()),
     }
 }
 
 // `command`: four words.
-fn put_command(out: &mut [u8], at: usize, w: Words) -> usize
-    ensures { (result, out.new) ≡ put_all (at, out.old) (command_line w) }
+#[tactic(auto, using(page::proofs::PageLaws::put_both), unfolding(phrases::specs::Text::command_line))]
+fn put_command(page: &mut Page, w: Words)
+    ensures { page.new ≡ put_all page.old (command_line w) }
 {
-    let a = page::put_text(out, at, b"command");
-    phrases::put_words(out, a, w)
+    page.put_text(b"command");
+    phrases::put_words(page, w);
 }
 
-pub fn put_resetting(out: &mut [u8], at: usize, answer: Resetting) -> usize
-    ensures { (result, out.new) ≡ put_all (at, out.old) (resetting_lines answer) }
+#[tactic(auto, using(page::proofs::PageLaws::put_both), unfolding(phrases::specs::Text::resetting_lines))]
+pub fn put_resetting(page: &mut Page, answer: Result<Option<ResetCommands>, Refusal>)
+    ensures { page.new ≡ put_all page.old (resetting_lines answer) }
 {
     match answer {
-        Resetting::Clear => phrases::put_name(out, at, b"clear"),
-        Resetting::Commands { reset, dequeue } => {
-            let a = put_command(out, at, reset);
-            put_command(out, a, dequeue)
+        Ok(None) => phrases::put_name(page, b"clear"),
+        Ok(Some(c)) => {
+            put_command(page, c.reset);
+            put_command(page, c.dequeue);
         }
-        Resetting::Refused(number) => phrases::put_no(out, at, number),
+        Err(refusal) => phrases::put_no(page, refusal.number()),
     }
 }
 
-pub fn put_commanded(out: &mut [u8], at: usize, answer: Command) -> usize
-    ensures { (result, out.new) ≡ put_all (at, out.old) (commanded_line answer) }
+#[tactic(auto, unfolding(phrases::specs::Text::commanded_line))]
+pub fn put_commanded(page: &mut Page, answer: Result<Words, Refusal>)
+    ensures { page.new ≡ put_all page.old (commanded_line answer) }
 {
     match answer {
-        Command::Words(w) => put_command(out, at, w),
-        Command::Refused(number) => phrases::put_no(out, at, number),
+        Ok(w) => put_command(page, w),
+        Err(refusal) => phrases::put_no(page, refusal.number()),
     }
 }
 
 // `pointer`: the address, the cycle.
-pub fn put_pointed(out: &mut [u8], at: usize, answer: Pointed) -> usize
-    ensures { (result, out.new) ≡ put_all (at, out.old) (pointed_line answer) }
+#[tactic(auto, using(page::proofs::PageLaws::put_both), unfolding(phrases::specs::Text::pointed_line))]
+pub fn put_pointed(page: &mut Page, answer: Result<Pointer, Refusal>)
+    ensures { page.new ≡ put_all page.old (pointed_line answer) }
 {
     match answer {
-        Pointed::At(p) => {
-            let a = page::put_text(out, at, b"pointer");
-            let b = page::put_hex(out, a, p.address);
-            let c = page::put_flag(out, b, p.cycle);
-            page::put_end(out, c)
+        Ok(p) => {
+            page.put_text(b"pointer");
+            page.put_hex(p.address);
+            page.put_flag(p.cycle);
+            page.put_end();
         }
-        Pointed::Refused(number) => phrases::put_no(out, at, number),
+        Err(refusal) => phrases::put_no(page, refusal.number()),
     }
 }
 
 // The account and the flags, of a `state` line.
-fn put_rest(out: &mut [u8], at: usize, e: Endpoint) -> usize
-    ensures { (result, out.new) ≡ put_all (at, out.old) (state_rest e) }
+#[tactic(auto, using(page::proofs::PageLaws::put_both), unfolding(phrases::specs::Text::state_rest))]
+fn put_rest(page: &mut Page, e: Endpoint)
+    ensures { page.new ≡ put_all page.old (state_rest e) }
 {
-    let a = page::put_decimal(out, at, e.account.next);
-    let b = page::put_decimal(out, a, e.periodic.frame as u64);
-    let c = page::put_flag(out, b, e.flags.halted);
-    let d = page::put_flag(out, c, e.flags.reset);
-    page::put_end(out, d)
+    page.put_decimal(e.account.next);
+    page.put_decimal(u64::from(e.periodic.frame));
+    page.put_flag(e.flags.halted);
+    page.put_flag(e.flags.reset);
+    page.put_end();
 }
 
 // `state`: place, cycle, outstanding, next id, next frame, halted, reset under way.
-pub fn put_state(out: &mut [u8], at: usize, e: Endpoint) -> usize
-    ensures { (result, out.new) ≡ put_all (at, out.old) (state_line e) }
+#[tactic(auto, using(page::proofs::PageLaws::put_both), unfolding(phrases::specs::Text::state_line))]
+pub fn put_state(page: &mut Page, e: Endpoint)
+    ensures { page.new ≡ put_all page.old (state_line e) }
 {
-    let a = page::put_text(out, at, b"state");
-    let b = page::put_decimal(out, a, e.at.place as u64);
-    let c = page::put_flag(out, b, e.at.cycle);
-    let d = page::put_decimal(out, c, e.account.outstanding);
-    put_rest(out, d, e)
+    page.put_text(b"state");
+    page.put_decimal(e.at.place as u64);
+    page.put_flag(e.at.cycle);
+    page.put_decimal(e.account.outstanding);
+    put_rest(page, e);
 }
 
 // `stands`: slot, cycle.
-pub fn put_stands(out: &mut [u8], at: usize, c: Consumer) -> usize
-    ensures { (result, out.new) ≡ put_all (at, out.old) (stands_line c) }
+#[tactic(auto, using(page::proofs::PageLaws::put_both), unfolding(phrases::specs::Text::stands_line))]
+pub fn put_stands(page: &mut Page, c: Consumer)
+    ensures { page.new ≡ put_all page.old (stands_line c) }
 {
-    let a = page::put_text(out, at, b"stands");
-    let b = page::put_decimal(out, a, c.slot as u64);
-    let d = page::put_flag(out, b, c.state);
-    page::put_end(out, d)
+    page.put_text(b"stands");
+    page.put_decimal(c.slot as u64);
+    page.put_flag(c.state);
+    page.put_end();
 }

@@ -1,134 +1,75 @@
 // The lines that show and forge.
 ghost use Rattle.std.specs.Prelude.{◌≡◌};
-ghost use Rattle.bench.specs.Bench.{poked, serve_poke, is_tool, serve_slot, serve_tools};
+ghost use Rattle.bench.specs.Bench.{serve_poke, is_tool, serve_slot, serve_tools};
 
 use crate::tools;
 use dock::Endpoint;
+use page::Page;
 use values::{Next, Turn, value};
-
-fn poked(done: bool) -> Next
-    ensures { result ≡ poked done }
-{
-    if done { Next::On } else { Next::Bad }
-}
+use words::Word;
 
 // `poke`: a word of a table is forged.
+#[tactic(auto, unfolding(crate::specs::Bench::serve_poke))]
 pub fn serve_poke(
     e: Endpoint,
     ring: &mut [u32],
     finished: &mut [u32],
     records: &mut [u64],
     packets: &mut [u64],
-    name: u64,
+    name: Word,
     values: &[u64],
-    at: usize,
 ) -> Turn
-    ensures { (result, ring.new, finished.new, records.new, packets.new) ≡ serve_poke e ring.old finished.old records.old packets.old name values.now at }
+    ensures { (result, ring.new, finished.new, records.new, packets.new) ≡ serve_poke e ring.old finished.old records.old packets.old name values.now }
 {
     let i = value(values, 0);
     let v = value(values, 1);
-    if name == words::RING {
-        let done = tools::forge32(ring, i, values::word(v));
-        return Turn {
-            e,
-            at,
-            next: poked(done),
-        };
-    }
-    if name == words::FINISHED {
-        let done = tools::forge32(finished, i, values::word(v));
-        return Turn {
-            e,
-            at,
-            next: poked(done),
-        };
-    }
-    if name == words::RECORDS {
-        let done = tools::forge64(records, i, v);
-        return Turn {
-            e,
-            at,
-            next: poked(done),
-        };
-    }
-    let done = tools::forge64(packets, i, v);
-    Turn {
-        e,
-        at,
-        next: poked(done),
-    }
+    let done = match name {
+        Word::Ring => tools::forge(ring, i, values::word(v)),
+        Word::Finished => tools::forge(finished, i, values::word(v)),
+        Word::Records => tools::forge(records, i, v),
+        _ => tools::forge(packets, i, v),
+    };
+    let next = if done { Next::On } else { Next::Bad };
+    Turn { e, next }
 }
 
 // What shows and forges.
-pub fn is_tool(w: u64) -> bool
+#[tactic(auto, unfolding(crate::specs::Bench::is_tool))]
+pub fn is_tool(w: Word) -> bool
     ensures { result ≡ is_tool w }
 {
-    if w == words::SLOT {
-        return true;
-    }
-    if w == words::STATE {
-        return true;
-    }
-    if w == words::NEXTID {
-        return true;
-    }
-    w == words::NEW
+    matches!(w, Word::Slot | Word::State | Word::NextId | Word::New)
 }
 
 // `slot`: a slot as it stands in the ring.
-fn serve_slot(e: Endpoint, ring: &[u32], index: u64, out: &mut [u8], at: usize) -> Turn
-    ensures { (result, out.new) ≡ serve_slot e ring.now index (at, out.old) }
+#[tactic(auto, unfolding(crate::specs::Bench::serve_slot))]
+fn serve_slot(e: Endpoint, ring: &[u32], index: u64, page: &mut Page) -> Turn
+    ensures { (result, page.new) ≡ serve_slot e ring.now index page.old }
 {
     let slot = index as usize;
     if ring.len() / 4 <= slot {
-        return Turn {
-            e,
-            at,
-            next: Next::Bad,
-        };
+        return Turn { e, next: Next::Bad };
     }
     let w = controller::slot_words(ring, slot);
-    let end = phrases::put_slot(out, at, b"slot", slot, w);
-    Turn {
-        e,
-        at: end,
-        next: Next::On,
-    }
+    phrases::put_slot(page, b"slot", slot, w);
+    Turn { e, next: Next::On }
 }
 
-pub fn serve_tools(
-    e: Endpoint,
-    ring: &[u32],
-    w: u64,
-    values: &[u64],
-    out: &mut [u8],
-    at: usize,
-) -> Turn
-    ensures { (result, out.new) ≡ serve_tools e ring.now w values.now (at, out.old) }
+#[tactic(auto, unfolding(crate::specs::Bench::serve_tools))]
+pub fn serve_tools(e: Endpoint, ring: &[u32], w: Word, values: &[u64], page: &mut Page) -> Turn
+    ensures { (result, page.new) ≡ serve_tools e ring.now w values.now page.old }
 {
     let first = value(values, 0);
-    if w == words::SLOT {
-        return serve_slot(e, ring, first, out, at);
-    }
-    if w == words::STATE {
-        let end = answers::put_state(out, at, e);
-        return Turn {
-            e,
-            at: end,
+    match w {
+        Word::Slot => serve_slot(e, ring, first, page),
+        Word::State => {
+            answers::put_state(page, e);
+            Turn { e, next: Next::On }
+        }
+        Word::NextId => Turn {
+            e: tools::with_next(e, first),
             next: Next::On,
-        };
-    }
-    if w == words::NEXTID {
-        let next = tools::with_next(e, first);
-        return Turn {
-            e: next,
-            at,
-            next: Next::On,
-        };
-    }
-    Turn {
-        e,
-        at,
-        next: Next::New,
+        },
+        _ => Turn { e, next: Next::New },
     }
 }

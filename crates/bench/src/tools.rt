@@ -4,25 +4,20 @@ ghost use Rattle.bench.specs.Bench.{with_next, forged};
 ghost use Rattle.bench.specs.Walk.{stride, walk, walked};
 
 use controller::{Consumer, Step};
-use dock::{Account, Endpoint};
+use dock::Endpoint;
+use page::Page;
 
 // The endpoint with another next id.
-pub fn with_next(e: Endpoint, next: u64) -> Endpoint
+pub fn with_next(mut e: Endpoint, next: u64) -> Endpoint
     ensures { result ≡ with_next e next }
 {
-    let occupancy = e.account.occupancy;
-    let account = Account {
-        next,
-        occupancy,
-        outstanding: e.account.outstanding,
-    };
-    let mut after = e;
-    after.account = account;
-    after
+    e.account.next = next;
+    e
 }
 
 // A word of a table is forged; false where the table has no such word.
-pub fn forge32(table: &mut [u32], index: u64, word: u32) -> bool
+#[tactic(auto, unfolding(crate::specs::Bench::forged))]
+pub fn forge<T: Copy>(table: &mut [T], index: u64, word: T) -> bool
     ensures { (result, table.new) ≡ forged table.old index word }
 {
     let i = index as usize;
@@ -33,93 +28,46 @@ pub fn forge32(table: &mut [u32], index: u64, word: u32) -> bool
     false
 }
 
-pub fn forge64(table: &mut [u64], index: u64, word: u64) -> bool
-    ensures { (result, table.new) ≡ forged table.old index word }
+// One step: where the controller stands behind it; nothing where it did nothing.
+#[tactic(auto, unfolding(crate::specs::Walk::stride))]
+fn stride(ring: &[u32], c: Consumer, page: &mut Page) -> Option<Consumer>
+    ensures { (result, page.new) ≡ stride ring.now c page.old }
 {
-    let i = index as usize;
-    if i < table.len() {
-        table[i] = word;
-        return true;
-    }
-    false
-}
-
-// Where the controller stands after its steps, and how many bytes stand on the page.
-#[derive(Clone, Copy)]
-pub struct Walked {
-    pub c: Consumer,
-    pub at: usize,
-}
-
-// One step: whether it did anything, where the controller then stands, and how many bytes stand on the page.
-#[derive(Clone, Copy)]
-pub struct Strode {
-    pub moved: bool,
-    pub c: Consumer,
-    pub at: usize,
-}
-
-fn stride(ring: &[u32], c: Consumer, out: &mut [u8], at: usize) -> Strode
-    ensures { (result, out.new) ≡ stride ring.now c (at, out.old) }
-{
-    let slot = c.slot;
-    if ring.len() / 4 <= slot {
-        return Strode {
-            moved: false,
-            c,
-            at,
-        };
+    if ring.len() / 4 <= c.slot {
+        return None;
     }
     let s = controller::take_step(ring, c);
-    let step = s.step;
-    let after = s.after;
-    match step {
-        Step::Nothing => Strode {
-            moved: false,
-            c: after,
-            at,
-        },
-        Step::Linked => Strode {
-            moved: true,
-            c: after,
-            at,
-        },
+    match s.step {
+        Step::Nothing => None,
+        Step::Linked => Some(s.after),
         Step::Took(w) => {
-            let end = phrases::put_slot(out, at, b"took", slot, w);
-            Strode {
-                moved: true,
-                c: after,
-                at: end,
-            }
+            phrases::put_slot(page, b"took", c.slot, w);
+            Some(s.after)
         }
     }
 }
 
-// So many steps, fewer where one does nothing.
-fn walk(most: u64, ring: &[u32], c: Consumer, out: &mut [u8], at: usize) -> Walked
-    ensures { (result, out.new) ≡ walk most ring.now c (at, out.old) }
+// So many steps, fewer where one does nothing: where the controller then stands.
+#[tactic(auto, unfolding(crate::specs::Walk::walk))]
+fn walk(most: u64, ring: &[u32], c: Consumer, page: &mut Page) -> Consumer
+    ensures { (result, page.new) ≡ walk most ring.now c page.old }
 {
     let mut stands = c;
-    let mut end = at;
-    let mut left = most;
-    while 0 < left {
-        let s = stride(ring, stands, out, end);
-        stands = s.c;
-        end = s.at;
-        if !s.moved {
-            return Walked { c: stands, at: end };
-        }
-        left -= 1;
+    for _ in 0..most {
+        let Some(after) = stride(ring, stands, page) else {
+            return stands;
+        };
+        stands = after;
     }
-    Walked { c: stands, at: end }
+    stands
 }
 
 // The controller takes so many steps, and stops sooner where a step does nothing.
-pub fn walk_on(most: u64, ring: &[u32], c: Consumer, out: &mut [u8], at: usize) -> Walked
-    ensures { (result, out.new) ≡ walked most ring.now c (at, out.old) }
+#[tactic(auto, unfolding(crate::specs::Walk::walked))]
+pub fn walk_on(most: u64, ring: &[u32], c: Consumer, page: &mut Page) -> Consumer
+    ensures { (result, page.new) ≡ walked most ring.now c page.old }
 {
-    let w = walk(most, ring, c, out, at);
-    let stands = w.c;
-    let end = answers::put_stands(out, w.at, stands);
-    Walked { c: stands, at: end }
+    let stands = walk(most, ring, c, page);
+    answers::put_stands(page, stands);
+    stands
 }

@@ -1,20 +1,25 @@
 -- The whole submission: its refusals, and what an admitted one leaves. Assumes nothing.
+use Rattle.std.specs.Prelude.{Err}
 use Prim.Native.Nat.{ℕ, ◌≤◌}
 use mathlib.Core.Bool.{Bool, true, false, ◌&&◌, and-eq-true_iff}
 use mathlib.Core.List.{List}
-use mathlib.Core.Path.{◌≡◌, sym, ap, subst, ◌∙◌}
+use mathlib.Core.Path.{refl, ◌≡◌, sym, ap, subst, ◌∙◌}
 use native.Mathlib.Omega.{arith}
 use borrow.Author.Tests.{eqb-true}
 use lib.Dec.{eqb}
 use lib.ListN.{length}
-use Rattle.sizes.specs.Sizes.{ring_size, packet_count, isoch}
+use Rattle.std.specs.Prelude.{Some}
+use Rattle.sizes.specs.Sizes.{ring_size, packet_count}
+use Rattle.records.specs.Kinds.{control, bulk, interrupt, isoch}
+use Rattle.records.proofs.KindLaws.{kind_false}
 use Rattle.records.specs.declared.Record.{Record}
 use Rattle.dock.specs.declared.Endpoint.{Endpoint}
 use Rattle.dock.specs.declared.Request.{Request}
 use Rattle.dock.specs.declared.What.{What}
 use Rattle.dock.specs.declared.What.TheVariants.{Control, Bulk, Interrupt, Isoch}
-use Rattle.dock.specs.declared.StoredAll.{StoredAll}
-use Rattle.dock.specs.declared.Submitted.TheVariants as submitted
+use Rattle.dock.specs.declared.After.{After}
+use Rattle.dock.specs.declared.Submitted.{Submitted}
+use Rattle.dock.specs.Refusals.{refusal}
 use Rattle.dock.specs.Requests.{kind_of, record_for}
 use Rattle.dock.specs.Start.{start_no, too_long, id_taken, started_endpoint, started_records}
 use Rattle.dock.specs.Submit.{submit_no, submit}
@@ -31,16 +36,16 @@ use Rattle.sending.specs.Sent.{sent_by, Sendable}
 use Rattle.sending.proofs.SentLaws.{sent_is}
 
 abbrev Sent : Type 0
-Sent = StoredAll × List ℕ × List ℕ × List ℕ
+Sent = After Submitted × List ℕ × List ℕ × List ℕ
 
 abbrev Left : Type 0
-Left = StoredAll × List ℕ × List ℕ × List ℕ × List ℕ
+Left = After Submitted × List ℕ × List ℕ × List ℕ × List ℕ
 
 -- Only an ISO request's lengths are walked.
-few : (what : What) (size : ℕ) (lengths : List ℕ) → too_long what size lengths ≡ false → kind_of what ≡ isoch → length lengths ≤ packet_count
-few (Control type request value index) size lengths short k = absurd (omega arith)
-few (Bulk incoming) size lengths short k = absurd (omega arith)
-few (Interrupt incoming) size lengths short k = absurd (omega arith)
+few : (what : What) (size : ℕ) (lengths : List ℕ) → too_long what size lengths ≡ false → Some (kind_of what) ≡ isoch → length lengths ≤ packet_count
+few (Control type request value index) size lengths short k = absurd (kind_false control isoch refl k)
+few (Bulk incoming) size lengths short k = absurd (kind_false bulk isoch refl k)
+few (Interrupt incoming) size lengths short k = absurd (kind_false interrupt isoch refl k)
 few (Isoch incoming) size lengths short k = few_packets incoming size lengths short
 
 module _ (e : Endpoint) (ring finished records packets : List ℕ) (request : Request) (lengths : List ℕ) where
@@ -52,7 +57,7 @@ module _ (e : Endpoint) (ring finished records packets : List ℕ) (request : Re
 
   -- A number that is not 0 is the answer, and leaves everything.
   pub refused : (number ≡ 0 → ⊥)
-      → (record { answer = submitted.Refused number; endpoint = e }, ring, finished, records, packets) ≡ submit e ring finished records packets request lengths
+      → (record { answer = Err (refusal number); endpoint = e }, ring, finished, records, packets) ≡ submit e ring finished records packets request lengths
   refused n = sym (submit_refuses e ring finished records packets request lengths n)
 
   -- Where it is 0 the sizes are right and the start is admitted.

@@ -2,7 +2,7 @@
 ghost use Rattle.std.specs.Prelude.{◌≡◌};
 ghost use Rattle.dock.specs.Start.{start};
 
-use dock::{Changed, Endpoint, Outcome, Request};
+use dock::{After, Endpoint, Request};
 
 pub fn start_request(
     e: Endpoint,
@@ -10,18 +10,18 @@ pub fn start_request(
     packets: &mut [u64],
     request: Request,
     lengths: &[u64],
-) -> Changed
+) -> After<()>
     ensures { (result, records.new, packets.new) ≡ start e records.old packets.old request lengths.now }
 {
-    let no = admission::start_no(e, records, packets.len(), request, lengths);
-    if no != 0 {
-        return Changed {
-            answer: Outcome::Refused(no),
+    let checked = admission::start_no(e, records, packets.len(), request, lengths);
+    if let Err(refusal) = checked {
+        return After {
+            answer: Err(refusal),
             endpoint: e,
         };
     }
-    Changed {
-        answer: Outcome::Done,
+    After {
+        answer: Ok(()),
         endpoint: starting::begin(e, records, packets, request, lengths),
     }
 }

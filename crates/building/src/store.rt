@@ -2,7 +2,7 @@
 ghost use Rattle.std.specs.Prelude.{◌≡◌};
 ghost use Rattle.dock.specs.NextStore.{store};
 
-use dock::{Endpoint, Stored, StoredOne};
+use dock::{After, Endpoint, Stored};
 
 pub fn next_store(
     e: Endpoint,
@@ -10,13 +10,13 @@ pub fn next_store(
     finished: &mut [u32],
     records: &[u64],
     packets: &[u64],
-) -> StoredOne
+) -> After<Stored>
     ensures { (result, ring.new, finished.new) ≡ store e ring.old finished.old records.now packets.now }
 {
-    let no = storing::store_no(e, ring.len(), finished.len(), records, packets.len());
-    if no != 0 {
-        return StoredOne {
-            answer: Stored::Refused(no),
+    let checked = storing::store_no(e, ring.len(), finished.len(), records, packets.len());
+    if let Err(refusal) = checked {
+        return After {
+            answer: Err(refusal),
             endpoint: e,
         };
     }

@@ -1,11 +1,13 @@
 // The whole submission, proved equal to the start and its stores in order. Each table is touched once: the tests read, then the record is written, then
 // each packet's length is read, written to its record and stored in its TRB.
 ghost use Rattle.std.specs.Prelude.{◌≡◌};
+ghost use Rattle.dock.specs.Refusals.{verdict};
 ghost use Rattle.dock.specs.Submit.{submit_no, submit};
 
-use dock::{Endpoint, Request, StoredAll, Submitted};
+use dock::{After, Endpoint, Refusal, Request, Submitted, refuse};
 
 // The start is refused also where the ring or the finished table has a wrong size: then no store could follow.
+#[tactic(auto, unfolding(dock::specs::Submit::submit_no, dock::specs::Submit::submit_tests, dock::specs::Start::start_no))]
 fn submit_no(
     e: Endpoint,
     ring: usize,
@@ -14,15 +16,11 @@ fn submit_no(
     packets: usize,
     request: Request,
     lengths: &[u64],
-) -> u32
-    ensures { result ≡ submit_no e ring finished records.now packets request lengths.now }
+) -> Result<(), Refusal>
+    ensures { result ≡ verdict (submit_no e ring finished records.now packets request lengths.now) }
 {
-    if !limits::is_sized(ring, e.shape.slots) {
-        return 1;
-    }
-    if !limits::is_sized(finished, e.shape.slots) {
-        return 1;
-    }
+    refuse(!limits::is_sized(ring, e.shape.slots), Refusal::Unfit)?;
+    refuse(!limits::is_sized(finished, e.shape.slots), Refusal::Unfit)?;
     admission::start_no(e, records, packets, request, lengths)
 }
 
@@ -34,10 +32,10 @@ pub fn submit_request(
     packets: &mut [u64],
     request: Request,
     lengths: &[u64],
-) -> StoredAll
+) -> After<Submitted>
     ensures { (result, ring.new, finished.new, records.new, packets.new) ≡ submit e ring.old finished.old records.old packets.old request lengths.now }
 {
-    let no = submit_no(
+    let checked = submit_no(
         e,
         ring.len(),
         finished.len(),
@@ -46,9 +44,9 @@ pub fn submit_request(
         request,
         lengths,
     );
-    if no != 0 {
-        return StoredAll {
-            answer: Submitted::Refused(no),
+    if let Err(refusal) = checked {
+        return After {
+            answer: Err(refusal),
             endpoint: e,
         };
     }

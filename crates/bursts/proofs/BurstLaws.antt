@@ -62,6 +62,16 @@ unfolding packets_of
 packets_are length packet sized some =
     rw (ne_eqb packet 0 (λ z. omega arith)) (omega (arith, blocks_before length packet sized some, ceiling_some length packet sized some))
 
+-- P as `div_ceil` gives it.
+pub packets_up : (length packet : ℕ) → 0 < packet → 0 < length → packets_of length packet ≡ length / packet + min 1 (length % packet)
+unfolding packets_of
+packets_up length packet sized some =
+    let least = ceiling_some length packet sized some in
+    ⊎_elim
+    (λ (e : length % packet ≡ 0). rw (ne_eqb packet 0 (λ z. omega arith), eq-eqb (length % packet) 0 e) (omega (arith, rw (eq-eqb (length % packet) 0 e) at least)))
+    (λ (p : 0 < length % packet). rw (ne_eqb packet 0 (λ z. omega arith), ne_eqb (length % packet) 0 (λ z. omega arith)) (omega arith))
+    (eq-zero-or-pos (length % packet))
+
 -- P where no size is set.
 pub no_size : (length packet : ℕ) → packet ≡ 0 → packets_of length packet ≡ 1
 unfolding packets_of

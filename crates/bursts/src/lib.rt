@@ -16,23 +16,10 @@ pub struct Bursts {
 fn packets(length: u64, packet: u16) -> u64
     ensures { (result ≡ packets_of length packet) × (0 < result) }
 {
-    if length <= packet as u64 {
+    if length <= packet as u64 || packet == 0 {
         return 1;
     }
-    if packet == 0 {
-        return 1;
-    }
-    (length - 1) / packet as u64 + 1
-}
-
-// n, or `most` where n is larger.
-fn at_most(n: u64, most: u32) -> u32
-    ensures { result ≡ min most n }
-{
-    if most as u64 <= n {
-        return most;
-    }
-    n as u32
+    length.div_ceil(packet as u64)
 }
 
 // The counts as a TRB has them, of the bursts before the last one and of the last one's packets but one.
@@ -40,8 +27,8 @@ fn limited(count: u64, last: u64) -> Bursts
     ensures { result ≡ record { count = min 31 count; last = min 15 last } }
 {
     Bursts {
-        count: at_most(count, 31),
-        last: at_most(last, 15),
+        count: count.min(31) as u32,
+        last: last.min(15) as u32,
     }
 }
 

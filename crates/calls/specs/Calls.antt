@@ -1,19 +1,16 @@
 -- The calls that lines make, each with what it writes: the endpoint and the page afterwards, and every table that the call is lent.
-use Rattle.std.specs.Prelude.{ℕ, zero, suc, Bool, true, false, List, [], ◌∷◌}
+use Rattle.std.specs.Prelude.{ℕ, zero, suc, Bool, true, false, List, [], ◌∷◌, ⊤, Option, Result, Ok, Err}
 use Rattle.base.specs.First.{pick}
-use Rattle.dock.specs.declared.Changed.{Changed}
-use Rattle.dock.specs.declared.Endpoint.{Endpoint}
-use Rattle.dock.specs.declared.Outcome.{Outcome}
-use Rattle.dock.specs.declared.Outcome.TheVariants as outcome
-use Rattle.dock.specs.Numbers.{outcome_number}
-use Rattle.dock.specs.declared.ReclaimedOne.{ReclaimedOne}
-use Rattle.dock.specs.declared.Request.{Request}
-use Rattle.dock.specs.declared.ResetBegun.{ResetBegun}
+use Rattle.dock.specs.declared.After.{After}
+use Rattle.dock.specs.declared.ResetCommands.{ResetCommands}
+use Rattle.dock.specs.declared.Refusal.{Refusal}
+use Rattle.dock.specs.declared.Reclaimed.{Reclaimed}
 use Rattle.dock.specs.declared.Stored.{Stored}
+use Rattle.dock.specs.declared.Submitted.{Submitted}
 use Rattle.dock.specs.declared.Stored.TheVariants as stored
-use Rattle.dock.specs.declared.StoredAll.{StoredAll}
-use Rattle.dock.specs.declared.StoredOne.{StoredOne}
-use Rattle.dock.specs.declared.Taken.{Taken}
+use Rattle.dock.specs.declared.Endpoint.{Endpoint}
+use Rattle.dock.specs.Numbers.{outcome_number}
+use Rattle.dock.specs.declared.Request.{Request}
 use Rattle.dock.specs.Configure.{configure}
 use Rattle.dock.specs.Start.{start}
 use Rattle.dock.specs.NextStore.{store}
@@ -44,91 +41,89 @@ retired_text = 114 ∷ 101 ∷ 116 ∷ 105 ∷ 114 ∷ 101 ∷ 100 ∷ []
 abbrev pub ended_text : List ℕ
 ended_text = 101 ∷ 110 ∷ 100 ∷ 101 ∷ 100 ∷ []
 
--- The endpoint, how many bytes stand on the page, and that the session goes on.
-abbrev pub turn : Endpoint → Page → Turn
-turn e q = record { e = e; at = q.0; next = On }
+-- The endpoint, and that the session goes on.
+abbrev pub turn : Endpoint → Turn
+turn e = record { e = e; next = On }
 
 -- What follows a call that is lent no table,
-abbrev pub told : Endpoint → Page → Turn × List ℕ
-told e q = (turn e q, q.1)
+abbrev pub told : Endpoint → Page → Turn × Page
+told e q = (turn e, q)
 
-abbrev pub changed_by : List ℕ → Page → Changed → Turn × List ℕ
+abbrev pub changed_by : List ℕ → Page → After ⊤ → Turn × Page
 changed_by name p c = told c.endpoint (put_all p (outcome_line name c.answer))
 
-unfoldable pub configured : Endpoint → List ℕ → Page → Turn × List ℕ
+unfoldable pub configured : Endpoint → List ℕ → Page → Turn × Page
 configured e values p = changed_by set_text p (configure e (half (value values 0)) (byte (value values 1)) (byte (value values 2)))
 
-unfoldable pub ended : Endpoint → Bool → Page → Turn × List ℕ
+unfoldable pub ended : Endpoint → Bool → Page → Turn × Page
 ended e worked p = changed_by ended_text p (end_reset e worked)
 
-unfoldable pub stopped : Endpoint → Page → Turn × List ℕ
+unfoldable pub stopped : Endpoint → Page → Turn × Page
 stopped e p = told e (put_all p (commanded_line (stop e)))
 
-unfoldable pub resumed : Endpoint → Page → Turn × List ℕ
+unfoldable pub resumed : Endpoint → Page → Turn × Page
 resumed e p = told e (put_all p (commanded_line (resume e)))
 
-unfoldable pub pointed : Endpoint → Page → Turn × List ℕ
+unfoldable pub pointed : Endpoint → Page → Turn × Page
 pointed e p = told e (put_all p (pointed_line (pointer e)))
 
-abbrev pub reset_by : Page → ResetBegun → Turn × List ℕ
+abbrev pub reset_by : Page → After (Option ResetCommands) → Turn × Page
 reset_by p b = told b.endpoint (put_all p (resetting_lines b.answer))
 
-unfoldable pub reset : Endpoint → List ℕ → Page → Turn × List ℕ
+unfoldable pub reset : Endpoint → List ℕ → Page → Turn × Page
 reset e records p = reset_by p (begin_reset e records)
 
 -- one that is lent a table,
-abbrev pub handed_by : Endpoint → Page → Taken × List ℕ → Turn × List ℕ × List ℕ
-handed_by e p t = let q = put_all p (taken_line t.0) in (turn e q, t.1, q.1)
+abbrev pub handed_by : Endpoint → Page → Result ℕ Refusal × List ℕ → Turn × List ℕ × Page
+handed_by e p t = (turn e, t.1, put_all p (taken_line t.0))
 
-unfoldable pub handed : Endpoint → List ℕ → List ℕ → Page → Turn × List ℕ × List ℕ
+unfoldable pub handed : Endpoint → List ℕ → List ℕ → Page → Turn × List ℕ × Page
 handed e finished values p = handed_by e p (hand_over e finished (event_of values))
 
-abbrev pub cancelled_by : Endpoint → ℕ → Page → Outcome × List ℕ → Turn × List ℕ × List ℕ
-cancelled_by e id p t = let q = put_all p (cut_line id t.0) in (turn e q, t.1, q.1)
+abbrev pub cancelled_by : Endpoint → ℕ → Page → Result ⊤ Refusal × List ℕ → Turn × List ℕ × Page
+cancelled_by e id p t = (turn e, t.1, put_all p (cut_line id t.0))
 
-unfoldable pub cancelled : Endpoint → List ℕ → ℕ → Page → Turn × List ℕ × List ℕ
+unfoldable pub cancelled : Endpoint → List ℕ → ℕ → Page → Turn × List ℕ × Page
 cancelled e records id p = cancelled_by e id p (cancel e records id)
 
-abbrev pub retired_by : Page → Changed × List ℕ → Turn × List ℕ × List ℕ
-retired_by p t = let q = put_all p (outcome_line retired_text t.0.answer) in (turn t.0.endpoint q, t.1, q.1)
+abbrev pub retired_by : Page → After ⊤ × List ℕ → Turn × List ℕ × Page
+retired_by p t = (turn t.0.endpoint, t.1, put_all p (outcome_line retired_text t.0.answer))
 
-unfoldable pub retired : Endpoint → List ℕ → Page → Turn × List ℕ × List ℕ
+unfoldable pub retired : Endpoint → List ℕ → Page → Turn × List ℕ × Page
 retired e records p = retired_by p (retire e records)
 
 -- and one that is lent two.
-abbrev pub reclaimed_by : Page → ReclaimedOne × List ℕ × List ℕ → Turn × List ℕ × List ℕ × List ℕ
-reclaimed_by p t = let q = put_all p (reclaimed_line t.2 t.0.answer) in (turn t.0.endpoint q, t.1, t.2, q.1)
+abbrev pub reclaimed_by : Page → After Reclaimed × List ℕ × List ℕ → Turn × List ℕ × List ℕ × Page
+reclaimed_by p t = (turn t.0.endpoint, t.1, t.2, put_all p (reclaimed_line t.2 t.0.answer))
 
-unfoldable pub reclaimed : Endpoint → List ℕ → List ℕ → List ℕ → ℕ → Page → Turn × List ℕ × List ℕ × List ℕ
+unfoldable pub reclaimed : Endpoint → List ℕ → List ℕ → List ℕ → ℕ → Page → Turn × List ℕ × List ℕ × Page
 reclaimed e finished records packets id p = reclaimed_by p (reclaim e finished records packets id)
 
-abbrev pub begun_by : Page → Changed × List ℕ × List ℕ → Turn × List ℕ × List ℕ × List ℕ
-begun_by p t = let q = put_all p (outcome_line begun_text t.0.answer) in (turn t.0.endpoint q, t.1, t.2, q.1)
+abbrev pub begun_by : Page → After ⊤ × List ℕ × List ℕ → Turn × List ℕ × List ℕ × Page
+begun_by p t = (turn t.0.endpoint, t.1, t.2, put_all p (outcome_line begun_text t.0.answer))
 
-unfoldable pub begun : Endpoint → List ℕ → List ℕ → Request → List ℕ → Page → Turn × List ℕ × List ℕ × List ℕ
+unfoldable pub begun : Endpoint → List ℕ → List ℕ → Request → List ℕ → Page → Turn × List ℕ × List ℕ × Page
 begun e records packets request lengths p = begun_by p (start e records packets request lengths)
 
 -- A store, and whether more are to come.
-abbrev pub goes_on : Stored → Bool
-goes_on (stored.Slot slot) = true
-goes_on (stored.Last slot id bell) = false
-goes_on (stored.Refused number) = false
+abbrev pub goes_on : Result Stored Refusal → Bool
+goes_on (Ok (stored.Slot slot)) = true
+goes_on (Ok (stored.Last slot id bell)) = false
+goes_on (Err why) = false
 
-abbrev pub stored_by : Page → StoredOne × List ℕ × List ℕ → StoreTurn × List ℕ × List ℕ × List ℕ
+abbrev pub stored_by : Page → After Stored × List ℕ × List ℕ → StoreTurn × List ℕ × List ℕ × Page
 stored_by p t =
-    let q = put_all p (stored_lines t.1 t.0.answer) in
-    (record { e = t.0.endpoint; at = q.0; more = goes_on t.0.answer }, t.1, t.2, q.1)
+    (record { e = t.0.endpoint; more = goes_on t.0.answer }, t.1, t.2, put_all p (stored_lines t.1 t.0.answer))
 
-unfoldable pub stored_one : Endpoint → List ℕ → List ℕ → List ℕ → List ℕ → Page → StoreTurn × List ℕ × List ℕ × List ℕ
+unfoldable pub stored_one : Endpoint → List ℕ → List ℕ → List ℕ → List ℕ → Page → StoreTurn × List ℕ × List ℕ × Page
 stored_one e ring finished records packets p = stored_by p (store e ring finished records packets)
 
 -- The stores that are left of a submission, in order, at most so many.
-abbrev pub stores_by : StoreTurn × List ℕ × List ℕ × List ℕ → (Endpoint → List ℕ → List ℕ → Page → Turn × List ℕ × List ℕ × List ℕ) → Turn × List ℕ × List ℕ × List ℕ
-stores_by t rest =
-    pick t.0.more (rest t.0.e t.1 t.2 (t.0.at, t.3)) (turn t.0.e (t.0.at, t.3), t.1, t.2, t.3)
+abbrev pub stores_by : StoreTurn × List ℕ × List ℕ × Page → (Endpoint → List ℕ → List ℕ → Page → Turn × List ℕ × List ℕ × Page) → Turn × List ℕ × List ℕ × Page
+stores_by t rest = pick t.0.more (rest t.0.e t.1 t.2 t.3) (turn t.0.e, t.1, t.2, t.3)
 
-unfoldable pub stores : ℕ → Endpoint → List ℕ → List ℕ → List ℕ → List ℕ → Page → Turn × List ℕ × List ℕ × List ℕ
-stores zero e ring finished records packets p = (turn e p, ring, finished, p.1)
+unfoldable pub stores : ℕ → Endpoint → List ℕ → List ℕ → List ℕ → List ℕ → Page → Turn × List ℕ × List ℕ × Page
+stores zero e ring finished records packets p = (turn e, ring, finished, p)
 stores (suc n) e ring finished records packets p =
     stores_by (stored_one e ring finished records packets p) (λ e ring finished p. stores n e ring finished records packets p)
 
@@ -136,21 +131,20 @@ stores (suc n) e ring finished records packets p =
 abbrev pub most_stores : ℕ
 most_stores = 66
 
-abbrev pub asked_by : Outcome → Endpoint → List ℕ → List ℕ → List ℕ → List ℕ → Page → Turn × List ℕ × List ℕ × List ℕ × List ℕ × List ℕ
-asked_by (outcome.Refused number) e ring finished records packets p =
-    let q = put_all p (refusal_line (outcome_number (outcome.Refused number))) in (turn e q, ring, finished, records, packets, q.1)
-asked_by outcome.Done e ring finished records packets p =
+abbrev pub asked_by : Result ⊤ Refusal → Endpoint → List ℕ → List ℕ → List ℕ → List ℕ → Page → Turn × List ℕ × List ℕ × List ℕ × List ℕ × Page
+asked_by (Err why) e ring finished records packets p =
+    (turn e, ring, finished, records, packets, put_all p (refusal_line (outcome_number (Err why))))
+asked_by (Ok u) e ring finished records packets p =
     let t = stores most_stores e ring finished records packets p in (t.0, t.1, t.2, records, packets, t.3)
 
-unfoldable pub asked : Endpoint → List ℕ → List ℕ → List ℕ → List ℕ → Request → List ℕ → Page → Turn × List ℕ × List ℕ × List ℕ × List ℕ × List ℕ
+unfoldable pub asked : Endpoint → List ℕ → List ℕ → List ℕ → List ℕ → Request → List ℕ → Page → Turn × List ℕ × List ℕ × List ℕ × List ℕ × Page
 asked e ring finished records packets request lengths p =
     let s = start e records packets request lengths in
     asked_by s.0.answer s.0.endpoint ring finished s.1 s.2 p
 
 -- The whole submission in one call.
-abbrev pub submitted_by : Page → StoredAll × List ℕ × List ℕ × List ℕ × List ℕ → Turn × List ℕ × List ℕ × List ℕ × List ℕ × List ℕ
-submitted_by p t =
-    let q = put_all p (submitted_line t.0.answer) in (turn t.0.endpoint q, t.1, t.2, t.3, t.4, q.1)
+abbrev pub submitted_by : Page → After Submitted × List ℕ × List ℕ × List ℕ × List ℕ → Turn × List ℕ × List ℕ × List ℕ × List ℕ × Page
+submitted_by p t = (turn t.0.endpoint, t.1, t.2, t.3, t.4, put_all p (submitted_line t.0.answer))
 
-unfoldable pub submitted : Endpoint → List ℕ → List ℕ → List ℕ → List ℕ → Request → List ℕ → Page → Turn × List ℕ × List ℕ × List ℕ × List ℕ × List ℕ
+unfoldable pub submitted : Endpoint → List ℕ → List ℕ → List ℕ → List ℕ → Request → List ℕ → Page → Turn × List ℕ × List ℕ × List ℕ × List ℕ × Page
 submitted e ring finished records packets request lengths p = submitted_by p (submit e ring finished records packets request lengths)

@@ -5,17 +5,24 @@ ghost use Rattle.std.specs.Prelude.{◌≡◌};
 ghost use Rattle.dock.specs.Make.{make};
 ghost use Rattle.values.specs.Values.{shape_of, identity_of};
 ghost use Rattle.calls.specs.Calls.{configured, ended, stopped, resumed, pointed, reset, handed, cancelled, retired, reclaimed, begun};
-ghost use Rattle.calls.specs.Calls.{goes_on, stored_one, stores, asked, submitted};
+ghost use Rattle.calls.specs.Calls.{turn, goes_on, stored_one, stores, asked, submitted};
 
-use dock::{Changed, Endpoint, Outcome, Request, Stored};
+use dock::{After, Endpoint, Refusal, Request, Stored};
+use page::Page;
 use values::{Next, Turn};
 
 // What a store leaves, and whether more are to come.
 #[derive(Clone, Copy)]
 pub struct StoreTurn {
     pub e: Endpoint,
-    pub at: usize,
     pub more: bool,
+}
+
+// The session goes on.
+fn on(e: Endpoint) -> Turn
+    ensures { result ≡ turn e }
+{
+    Turn { e, next: Next::On }
 }
 
 // `ring`: a ring is made.
@@ -25,7 +32,7 @@ pub fn made(
     records: &mut [u64],
     packets: &mut [u64],
     values: &[u64],
-) -> Changed
+) -> After<()>
     ensures { (result, ring.new, finished.new, records.new, packets.new) ≡ make ring.old finished.old records.old packets.old (shape_of values.now) (identity_of values.now) }
 {
     making::make::make(
@@ -38,86 +45,64 @@ pub fn made(
     )
 }
 
-pub fn configured(e: Endpoint, values: &[u64], out: &mut [u8], at: usize) -> Turn
-    ensures { (result, out.new) ≡ configured e values.now (at, out.old) }
+#[tactic(auto, unfolding(crate::specs::Calls::configured))]
+pub fn configured(e: Endpoint, values: &[u64], page: &mut Page) -> Turn
+    ensures { (result, page.new) ≡ configured e values.now page.old }
 {
     let packet = values::half(values::value(values, 0));
     let burst = values::byte(values::value(values, 1));
     let interval = values::byte(values::value(values, 2));
     let c = making::configure::configure_periodic(e, packet, burst, interval);
-    let answer = c.answer;
-    let end = answers::put_outcome(out, at, b"set", answer);
-    let next = c.endpoint;
-    Turn {
-        e: next,
-        at: end,
-        next: Next::On,
-    }
+    answers::put_outcome(page, b"set", c.answer);
+    on(c.endpoint)
 }
 
 // The start of a submission by itself.
+#[tactic(auto, unfolding(crate::specs::Calls::begun))]
 pub fn begun(
     e: Endpoint,
     records: &mut [u64],
     packets: &mut [u64],
     request: Request,
     lengths: &[u64],
-    out: &mut [u8],
-    at: usize,
+    page: &mut Page,
 ) -> Turn
-    ensures { (result, records.new, packets.new, out.new) ≡ begun e records.old packets.old request lengths.now (at, out.old) }
+    ensures { (result, records.new, packets.new, page.new) ≡ begun e records.old packets.old request lengths.now page.old }
 {
     let s = building::start::start_request(e, records, packets, request, lengths);
-    let answer = s.answer;
-    let end = answers::put_outcome(out, at, b"begun", answer);
-    let next = s.endpoint;
-    Turn {
-        e: next,
-        at: end,
-        next: Next::On,
-    }
+    answers::put_outcome(page, b"begun", s.answer);
+    on(s.endpoint)
 }
 
 // Are more stores to come?
-fn goes_on(answer: Stored) -> bool
+fn goes_on(answer: Result<Stored, Refusal>) -> bool
     ensures { result ≡ goes_on answer }
 {
-    match answer {
-        Stored::Slot(_) => true,
-        Stored::Last {
-            slot: _,
-            id: _,
-            bell: _,
-        } => false,
-        Stored::Refused(_) => false,
-    }
+    matches!(answer, Ok(Stored::Slot(_)))
 }
 
 // One store.
+#[tactic(auto, unfolding(crate::specs::Calls::stored_one))]
 pub fn stored(
     e: Endpoint,
     ring: &mut [u32],
     finished: &mut [u32],
     records: &[u64],
     packets: &[u64],
-    out: &mut [u8],
-    at: usize,
+    page: &mut Page,
 ) -> StoreTurn
-    ensures { (result, ring.new, finished.new, out.new) ≡ stored_one e ring.old finished.old records.now packets.now (at, out.old) }
+    ensures { (result, ring.new, finished.new, page.new) ≡ stored_one e ring.old finished.old records.now packets.now page.old }
 {
     let s = building::store::next_store(e, ring, finished, records, packets);
-    let answer = s.answer;
-    let end = answers::put_stored(out, at, ring, answer);
-    let more = goes_on(answer);
-    let next = s.endpoint;
+    answers::put_stored(page, ring, s.answer);
     StoreTurn {
-        e: next,
-        at: end,
-        more,
+        e: s.endpoint,
+        more: goes_on(s.answer),
     }
 }
 
 // The stores that are left of a submission, in order, at most so many.
+#[tactic(auto, unfolding(crate::specs::Calls::stores))]
 fn stores(
     most: usize,
     e: Endpoint,
@@ -125,35 +110,23 @@ fn stores(
     finished: &mut [u32],
     records: &[u64],
     packets: &[u64],
-    out: &mut [u8],
-    at: usize,
+    page: &mut Page,
 ) -> Turn
-    ensures { (result, ring.new, finished.new, out.new) ≡ stores most e ring.old finished.old records.now packets.now (at, out.old) }
+    ensures { (result, ring.new, finished.new, page.new) ≡ stores most e ring.old finished.old records.now packets.now page.old }
 {
     let mut next = e;
-    let mut end = at;
-    let mut left = most;
-    while 0 < left {
-        let t = stored(next, ring, finished, records, packets, out, end);
+    for _ in 0..most {
+        let t = stored(next, ring, finished, records, packets, page);
         next = t.e;
-        end = t.at;
         if !t.more {
-            return Turn {
-                e: next,
-                at: end,
-                next: Next::On,
-            };
+            return on(next);
         }
-        left -= 1;
     }
-    Turn {
-        e: next,
-        at: end,
-        next: Next::On,
-    }
+    on(next)
 }
 
 // A request: its start, and its stores in order, each written.
+#[tactic(auto, unfolding(crate::specs::Calls::asked))]
 pub fn asked(
     e: Endpoint,
     ring: &mut [u32],
@@ -162,28 +135,24 @@ pub fn asked(
     packets: &mut [u64],
     request: Request,
     lengths: &[u64],
-    out: &mut [u8],
-    at: usize,
+    page: &mut Page,
 ) -> Turn
-    ensures { (result, ring.new, finished.new, records.new, packets.new, out.new) ≡ asked e ring.old finished.old records.old packets.old request lengths.now (at, out.old) }
+    ensures { (result, ring.new, finished.new, records.new, packets.new, page.new) ≡ asked e ring.old finished.old records.old packets.old request lengths.now page.old }
 {
     let s = building::start::start_request(e, records, packets, request, lengths);
     let answer = s.answer;
     let next = s.endpoint;
     match answer {
-        Outcome::Refused(number) => {
-            let end = phrases::put_no(out, at, number);
-            Turn {
-                e: next,
-                at: end,
-                next: Next::On,
-            }
+        Err(refusal) => {
+            phrases::put_no(page, refusal.number());
+            on(next)
         }
-        Outcome::Done => stores(66, next, ring, finished, records, packets, out, at),
+        Ok(()) => stores(66, next, ring, finished, records, packets, page),
     }
 }
 
 // A whole submission in one call.
+#[tactic(auto, unfolding(crate::specs::Calls::submitted))]
 pub fn submitted(
     e: Endpoint,
     ring: &mut [u32],
@@ -192,143 +161,100 @@ pub fn submitted(
     packets: &mut [u64],
     request: Request,
     lengths: &[u64],
-    out: &mut [u8],
-    at: usize,
+    page: &mut Page,
 ) -> Turn
-    ensures { (result, ring.new, finished.new, records.new, packets.new, out.new) ≡ submitted e ring.old finished.old records.old packets.old request lengths.now (at, out.old) }
+    ensures { (result, ring.new, finished.new, records.new, packets.new, page.new) ≡ submitted e ring.old finished.old records.old packets.old request lengths.now page.old }
 {
     let s = building::submit::submit_request(e, ring, finished, records, packets, request, lengths);
-    let answer = s.answer;
-    let end = answers::put_submitted(out, at, answer);
-    let next = s.endpoint;
-    Turn {
-        e: next,
-        at: end,
-        next: Next::On,
-    }
+    answers::put_submitted(page, s.answer);
+    on(s.endpoint)
 }
 
-pub fn handed(e: Endpoint, finished: &mut [u32], values: &[u64], out: &mut [u8], at: usize) -> Turn
-    ensures { (result, finished.new, out.new) ≡ handed e finished.old values.now (at, out.old) }
+#[tactic(auto, unfolding(crate::specs::Calls::handed))]
+pub fn handed(e: Endpoint, finished: &mut [u32], values: &[u64], page: &mut Page) -> Turn
+    ensures { (result, finished.new, page.new) ≡ handed e finished.old values.now page.old }
 {
     let event = values::event_of(values);
     let answer = completion::hand_over(e, finished, event);
-    let end = answers::put_taken(out, at, answer);
-    Turn {
-        e,
-        at: end,
-        next: Next::On,
-    }
+    answers::put_taken(page, answer);
+    on(e)
 }
 
+#[tactic(auto, unfolding(crate::specs::Calls::reclaimed))]
 pub fn reclaimed(
     e: Endpoint,
     finished: &[u32],
     records: &mut [u64],
     packets: &mut [u64],
     id: u64,
-    out: &mut [u8],
-    at: usize,
+    page: &mut Page,
 ) -> Turn
-    ensures { (result, records.new, packets.new, out.new) ≡ reclaimed e finished.now records.old packets.old id (at, out.old) }
+    ensures { (result, records.new, packets.new, page.new) ≡ reclaimed e finished.now records.old packets.old id page.old }
 {
     let r = reclaiming::reclaim_request(e, finished, records, packets, id);
-    let answer = r.answer;
-    let end = answers::put_reclaimed(out, at, packets, answer);
-    let next = r.endpoint;
-    Turn {
-        e: next,
-        at: end,
-        next: Next::On,
-    }
+    answers::put_reclaimed(page, packets, r.answer);
+    on(r.endpoint)
 }
 
-pub fn cancelled(e: Endpoint, records: &mut [u64], id: u64, out: &mut [u8], at: usize) -> Turn
-    ensures { (result, records.new, out.new) ≡ cancelled e records.old id (at, out.old) }
+#[tactic(auto, unfolding(crate::specs::Calls::cancelled))]
+pub fn cancelled(e: Endpoint, records: &mut [u64], id: u64, page: &mut Page) -> Turn
+    ensures { (result, records.new, page.new) ≡ cancelled e records.old id page.old }
 {
     let answer = completion::cancel_request(e, records, id);
-    let end = answers::put_cut(out, at, id, answer);
-    Turn {
-        e,
-        at: end,
-        next: Next::On,
-    }
+    answers::put_cut(page, id, answer);
+    on(e)
 }
 
-pub fn retired(e: Endpoint, records: &mut [u64], out: &mut [u8], at: usize) -> Turn
-    ensures { (result, records.new, out.new) ≡ retired e records.old (at, out.old) }
+#[tactic(auto, unfolding(crate::specs::Calls::retired))]
+pub fn retired(e: Endpoint, records: &mut [u64], page: &mut Page) -> Turn
+    ensures { (result, records.new, page.new) ≡ retired e records.old page.old }
 {
     let r = retiring::retire_all_after_stop(e, records);
-    let answer = r.answer;
-    let end = answers::put_outcome(out, at, b"retired", answer);
-    let next = r.endpoint;
-    Turn {
-        e: next,
-        at: end,
-        next: Next::On,
-    }
+    answers::put_outcome(page, b"retired", r.answer);
+    on(r.endpoint)
 }
 
-pub fn stopped(e: Endpoint, out: &mut [u8], at: usize) -> Turn
-    ensures { (result, out.new) ≡ stopped e (at, out.old) }
+#[tactic(auto, unfolding(crate::specs::Calls::stopped))]
+pub fn stopped(e: Endpoint, page: &mut Page) -> Turn
+    ensures { (result, page.new) ≡ stopped e page.old }
 {
     let answer = stopping::stop_words(e);
-    let end = answers::put_commanded(out, at, answer);
-    Turn {
-        e,
-        at: end,
-        next: Next::On,
-    }
+    answers::put_commanded(page, answer);
+    on(e)
 }
 
-pub fn resumed(e: Endpoint, out: &mut [u8], at: usize) -> Turn
-    ensures { (result, out.new) ≡ resumed e (at, out.old) }
+#[tactic(auto, unfolding(crate::specs::Calls::resumed))]
+pub fn resumed(e: Endpoint, page: &mut Page) -> Turn
+    ensures { (result, page.new) ≡ resumed e page.old }
 {
     let answer = stopping::resume_words(e);
-    let end = answers::put_commanded(out, at, answer);
-    Turn {
-        e,
-        at: end,
-        next: Next::On,
-    }
+    answers::put_commanded(page, answer);
+    on(e)
 }
 
-pub fn pointed(e: Endpoint, out: &mut [u8], at: usize) -> Turn
-    ensures { (result, out.new) ≡ pointed e (at, out.old) }
+#[tactic(auto, unfolding(crate::specs::Calls::pointed))]
+pub fn pointed(e: Endpoint, page: &mut Page) -> Turn
+    ensures { (result, page.new) ≡ pointed e page.old }
 {
     let answer = stopping::enqueue_pointer(e);
-    let end = answers::put_pointed(out, at, answer);
-    Turn {
-        e,
-        at: end,
-        next: Next::On,
-    }
+    answers::put_pointed(page, answer);
+    on(e)
 }
 
-pub fn reset(e: Endpoint, records: &[u64], out: &mut [u8], at: usize) -> Turn
-    ensures { (result, out.new) ≡ reset e records.now (at, out.old) }
+#[tactic(auto, unfolding(crate::specs::Calls::reset))]
+pub fn reset(e: Endpoint, records: &[u64], page: &mut Page) -> Turn
+    ensures { (result, page.new) ≡ reset e records.now page.old }
 {
     let b = resetting::begin_reset(e, records);
-    let answer = b.answer;
-    let end = answers::put_resetting(out, at, answer);
-    let next = b.endpoint;
-    Turn {
-        e: next,
-        at: end,
-        next: Next::On,
-    }
+    answers::put_resetting(page, b.answer);
+    on(b.endpoint)
 }
 
-pub fn ended(e: Endpoint, worked: bool, out: &mut [u8], at: usize) -> Turn
-    ensures { (result, out.new) ≡ ended e worked (at, out.old) }
+#[tactic(auto, unfolding(crate::specs::Calls::ended))]
+pub fn ended(e: Endpoint, worked: bool, page: &mut Page) -> Turn
+    ensures { (result, page.new) ≡ ended e worked page.old }
 {
     let f = resetting::end_reset(e, worked);
-    let answer = f.answer;
-    let end = answers::put_outcome(out, at, b"ended", answer);
-    let next = f.endpoint;
-    Turn {
-        e: next,
-        at: end,
-        next: Next::On,
-    }
+    answers::put_outcome(page, b"ended", f.answer);
+    on(f.endpoint)
 }

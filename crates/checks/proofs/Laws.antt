@@ -10,8 +10,9 @@ use lib.Dec.{eqb, ltb}
 use lib.ListN.{length}
 use Rattle.base.proofs.Decide.{if_so}
 use Rattle.dock.proofs.RefusalTestLaws.{Limits, PlaceFits, by_fits, by_fits_with}
-use Rattle.sizes.specs.Sizes.{records_size, packet_count, control, bulk, interrupt, isoch}
+use Rattle.sizes.specs.Sizes.{records_size, packet_count}
 use Rattle.base.specs.First.{pick}
+use Rattle.records.specs.Kinds.{kind_is, control, bulk, interrupt, isoch}
 use Rattle.records.specs.declared.Record.{Record}
 use Rattle.dock.specs.RowOne.{fits, the_link, the_trb, the_first, none, next_of, strays, fits_with}
 use Rattle.dock.specs.Trbs.{trb_count, deferred}
@@ -62,9 +63,9 @@ pick_le false x y n p q = q
 pub count_most : (v : Record) → trb_count v ≤ packet_count
 unfolding trb_count
 count_most v =
-    pick_le (eqb v.kind control) _ _ packet_count (pick_le (eqb v.length 0) 2 3 packet_count (omega arith) (omega arith))
-    (pick_le (eqb v.kind isoch) _ _ packet_count (omega arith)
-    (pick_le (eqb v.kind bulk) _ _ packet_count (omega arith) (pick_le (eqb v.kind interrupt) 1 0 packet_count (omega arith) (omega arith))))
+    pick_le (kind_is v.kind control) _ _ packet_count (pick_le (eqb v.length 0) 2 3 packet_count (omega arith) (omega arith))
+    (pick_le (kind_is v.kind isoch) _ _ packet_count (omega arith)
+    (pick_le (kind_is v.kind bulk) _ _ packet_count (omega arith) (pick_le (kind_is v.kind interrupt) 1 0 packet_count (omega arith) (omega arith))))
 
 second : (a b c : Bool) → pick a the_link (pick b the_trb (pick c the_first none)) ≡ the_trb → b ≡ true
 second true b c e = let z : ◌≡◌ {A = ℕ} 0 1 = cc in absurd (omega arith)

@@ -1,163 +1,145 @@
 // A completion: the record is freed, and the answer is the first of 7, 9 and 8 that holds, or the length.
 #![tactic(auto)]
 
-ghost use Rattle.std.specs.Prelude.{◌≡◌, not, ◌&&◌, ◌||◌, ◌-◌, ◌<◌, ltb, eqb};
+ghost use Rattle.std.specs.Prelude.{◌≡◌, not, ◌&&◌, ◌<◌, ltb, eqb, length, Ok};
 ghost use Rattle.base.specs.First.{first};
 ghost use Rattle.sizes.specs.Sizes.{record_count};
 ghost use Rattle.dock.specs.Reclaim.{leave, mismatched, complete_tests, packets_told, completion, complete_answer, complete, nothing, reclaim_stopped};
+ghost use Rattle.checks.specs.Shown.{Shown};
 
-use dock::{Account, Completion, Endpoint, Flags, Reclaimed, ReclaimedOne};
-use records::Record;
-use sizes::ISOCH;
+use dock::{Account, After, Completion, Endpoint, Flags, Reclaimed};
+use records::{Kind, Record};
 
-// A length less what remains, or a count less another: the difference, not below 0.
-pub fn less(a: u64, b: u64) -> u64
-    ensures { result ≡ a - b }
-{
-    if a < b {
-        return 0;
-    }
-    a - b
-}
-
-fn either(a: bool, b: bool) -> bool
-    ensures { result ≡ (a || b) }
-{
-    if a {
-        return true;
-    }
-    b
-}
-
-// The endpoint with a record freed, so many TRBs less outstanding, and halted where it is to be.
-pub fn left(e: Endpoint, number: usize, count: u64, halts: bool) -> Endpoint
-    requires { number < record_count }
-    ensures { result ≡ leave e number count halts }
-{
-    let a = e.account;
-    let f = e.flags;
-    let account = Account {
-        next: a.next,
-        occupancy: mask::freed(a.occupancy, number),
-        outstanding: less(a.outstanding, count),
-    };
-    let flags = Flags {
-        halted: either(f.halted, halts),
-        reset: f.reset,
-    };
-    let mut next = e;
-    next.account = account;
-    next.flags = flags;
-    next
-}
-
+#[tactic(auto, unfolding(dock::specs::Reclaim::mismatched))]
 fn is_mismatched(v: Record) -> bool
     ensures { result ≡ mismatched v }
 {
-    if v.kind != ISOCH {
-        return false;
-    }
-    v.count != v.given
-}
-
-// Which of 7, 9 and 8 it is, or 0.
-fn which(v: Record, fails: bool) -> u32
-    ensures { result ≡ first (complete_tests v fails) }
-{
-    let no = base::earlier(0, v.cancelled, 7);
-    let no = base::earlier(no, is_mismatched(v), 9);
-    base::earlier(no, fails, 8)
+    v.kind == Some(Kind::Isoch) && v.count != v.given
 }
 
 fn says_yes(size: u64, incoming: bool) -> bool
     ensures { result ≡ (ltb 0 size && incoming) }
 {
-    if size == 0 {
-        return false;
-    }
-    incoming
-}
-
-// A stopped record is freed; its TRBs left flight when it was retired.
-pub fn stopped(e: Endpoint, v: Record, number: usize) -> ReclaimedOne
-    requires { number < record_count }
-    ensures { result ≡ reclaim_stopped e v number }
-{
-    ReclaimedOne {
-        answer: Reclaimed::Cancelled,
-        endpoint: left(e, number, 0, false),
-    }
+    0 < size && incoming
 }
 
 // Only an isochronous request has packets to tell of, whatever the record of another says.
 fn packets_told(v: Record) -> usize
     ensures { result ≡ packets_told v }
 {
-    if v.kind == ISOCH {
-        return v.given as usize;
+    if v.kind == Some(Kind::Isoch) {
+        v.given as usize
+    } else {
+        0
     }
-    0
-}
-
-fn came_to(v: Record, number: usize, size: u64) -> Completion
-    ensures { result ≡ completion v number size }
-{
-    Completion {
-        id: v.id,
-        length: size,
-        yes: says_yes(size, v.incoming),
-        number,
-        packets: packets_told(v),
-    }
-}
-
-fn answer_of(which: u32, v: Record, number: usize, code: u32, size: u64) -> Reclaimed
-    ensures { result ≡ complete_answer which v number code size }
-{
-    if which == 7 {
-        return Reclaimed::Cancelled;
-    }
-    if which == 9 {
-        return Reclaimed::Mismatch;
-    }
-    if which == 8 {
-        return Reclaimed::Failed(code);
-    }
-    Reclaimed::Done(came_to(v, number, size))
 }
 
 // A stall halts the endpoint, but not that of a cancelled request.
 fn halts(cancelled: bool, code: u32) -> bool
     ensures { result ≡ (not cancelled && eqb code 6) }
 {
-    if cancelled {
-        return false;
-    }
-    code == 6
+    !cancelled && code == 6
 }
 
-pub fn completed(
-    e: Endpoint,
-    v: Record,
-    number: usize,
-    code: u32,
-    fails: bool,
-    size: u64,
-) -> ReclaimedOne
-    requires { number < record_count }
-    ensures { result ≡ complete e v number code fails size }
-{
-    let answer = answer_of(which(v, fails), v, number, code, size);
-    let endpoint = left(e, number, v.count, halts(v.cancelled, code));
-    ReclaimedOne { answer, endpoint }
+// A request whose completion is looked for: the endpoint, what the record says, and the record's number, which is one of the table's.
+#[derive(Clone, Copy)]
+pub struct Claim {
+    pub endpoint: Endpoint,
+    pub record: Record,
+    pub number: usize,
+    ghost held: { number < record_count },
+}
+
+impl Claim {
+    // The endpoint with the record freed, so many TRBs less outstanding, and halted where it is to be.
+    #[tactic(auto, unfolding(dock::specs::Reclaim::leave))]
+    pub fn left(self, count: u64, halts: bool) -> Endpoint
+        ensures { result ≡ leave self.endpoint self.number count halts }
+    {
+        let e = self.endpoint;
+        let account = Account {
+            occupancy: e.account.occupancy.freed(self.number),
+            outstanding: e.account.outstanding.saturating_sub(count),
+            ..e.account
+        };
+        let flags = Flags {
+            halted: e.flags.halted || halts,
+            ..e.flags
+        };
+        Endpoint {
+            account,
+            flags,
+            ..e
+        }
+    }
+
+    // A stopped record is freed; its TRBs left flight when it was retired.
+    pub fn stopped(self) -> After<Reclaimed>
+        ensures { result ≡ reclaim_stopped self.endpoint self.record self.number }
+    {
+        After {
+            answer: Ok(Reclaimed::Cancelled),
+            endpoint: self.left(0, false),
+        }
+    }
+
+    fn came_to(self, size: u64) -> Completion
+        ensures { result ≡ completion self.record self.number size }
+    {
+        let v = self.record;
+        Completion {
+            id: v.id,
+            length: size,
+            yes: says_yes(size, v.incoming),
+            number: self.number,
+            packets: packets_told(v),
+        }
+    }
+
+    // "for a completion 7, 9, 8": the first that holds, or what the request came to.
+    #[tactic(auto, unfolding(dock::specs::Reclaim::complete_tests))]
+    fn answer_of(self, code: u32, fails: bool, size: u64) -> Reclaimed
+        ensures { Ok result ≡ complete_answer (first (complete_tests self.record fails)) self.record self.number code size }
+    {
+        let v = self.record;
+        if v.cancelled {
+            return Reclaimed::Cancelled;
+        }
+        if is_mismatched(v) {
+            return Reclaimed::Mismatch;
+        }
+        if fails {
+            return Reclaimed::Failed(code);
+        }
+        Reclaimed::Done(self.came_to(size))
+    }
+
+    #[tactic(auto, unfolding(dock::specs::Reclaim::complete))]
+    pub fn completed(self, code: u32, fails: bool, size: u64) -> After<Reclaimed>
+        ensures { result ≡ complete self.endpoint self.record self.number code fails size }
+    {
+        let v = self.record;
+        After {
+            answer: Ok(self.answer_of(code, fails, size)),
+            endpoint: self.left(v.count, halts(v.cancelled, code)),
+        }
+    }
+}
+
+// A request in flight, and the finished table in which its events are looked for: that of the ring, and the request's place one of the slots 0 to L-2.
+#[derive(Clone, Copy)]
+pub struct Flight<'a> {
+    pub claim: Claim,
+    pub finished: &'a [u32],
+    ghost shown: { Shown claim.endpoint.shape.slots (length finished.now) claim.record.place claim.number },
 }
 
 // Row 10: nothing.
-pub fn unfinished(e: Endpoint) -> ReclaimedOne
+pub fn unfinished(e: Endpoint) -> After<Reclaimed>
     ensures { result ≡ nothing e }
 {
-    ReclaimedOne {
-        answer: Reclaimed::Nothing,
+    After {
+        answer: Ok(Reclaimed::Nothing),
         endpoint: e,
     }
 }

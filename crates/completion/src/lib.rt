@@ -11,22 +11,18 @@ ghost use Rattle.ids.specs.Lookup.{find_in};
 ghost use Rattle.dock.specs.Cancel.{marked, cancel};
 ghost use Rattle.dock.specs.HandOver.{hand_over};
 
-use dock::{Endpoint, Outcome, Taken};
-use ids::Lookup;
+use dock::{Endpoint, Refusal};
 use mask::Occupancy;
 use records::CANCELLED;
 
 // An event is handed over: its place is filled.
-pub fn hand_over(e: Endpoint, finished: &mut [u32], event: trb::Words) -> Taken
+pub fn hand_over(e: Endpoint, finished: &mut [u32], event: trb::Words) -> Result<usize, Refusal>
     ensures { (result, finished.new) ≡ hand_over e finished.old event }
 {
-    let no = refusal::hand_over_no(e, finished.len(), event);
-    if no != 0 {
-        return Taken::Refused(no);
-    }
+    refusal::hand_over_no(e, finished.len(), event)?;
     let slot = refusal::place_for(e, event);
     finished::set_finished(finished, slot, event);
-    Taken::Place(slot)
+    Ok(slot)
 }
 
 // The record with the id is marked as cancelled.
@@ -36,19 +32,16 @@ fn mark(records: &mut [u64], occupancy: Occupancy, id: u64)
 {
     let found = ids::find_id(records, occupancy, id);
     match found {
-        Lookup::Nothing => {}
-        Lookup::At(r) => records::set_word(records, r, CANCELLED, 1),
+        None => {}
+        Some(r) => records::set_word(records, r, CANCELLED, 1),
     }
 }
 
 // A request is cancelled: its completion will answer 7.
-pub fn cancel_request(e: Endpoint, records: &mut [u64], id: u64) -> Outcome
+pub fn cancel_request(e: Endpoint, records: &mut [u64], id: u64) -> Result<(), Refusal>
     ensures { (result, records.new) ≡ cancel e records.old id }
 {
-    let no = refusal::cancel_no(e, records, id);
-    if no != 0 {
-        return Outcome::Refused(no);
-    }
+    refusal::cancel_no(e, records, id)?;
     mark(records, e.account.occupancy, id);
-    Outcome::Done
+    Ok(())
 }

@@ -4,11 +4,9 @@
 // Its rule is proved to be the standard's consumer rule (`trb`, specs/Cycle) wherever the links lead to slot 0 and toggle, as the ring's own does.
 #![tactic(auto)]
 
-ghost use Rattle.std.specs.Prelude.{◌≡◌, ◌+◌, ◌*◌, ◌≤◌, ◌<◌, eqb, length, get_or};
-ghost use Rattle.std.specs.Bool.{beq};
-ghost use Rattle.trb.specs.Cycle.{owned, type_of};
+ghost use Rattle.std.specs.Prelude.{◌≡◌, ◌+◌, ◌*◌, ◌≤◌, ◌<◌, length, get_or};
 ghost use Rattle.trb.specs.Layouts.{words_at};
-ghost use Rattle.controller.specs.Rule.{pointer, origin, does, step_at, step};
+ghost use Rattle.controller.specs.Rule.{origin, does, step_at, step};
 
 use trb::Words;
 
@@ -38,13 +36,11 @@ pub struct Stepped {
 fn word_at(ring: &[u32], i: usize) -> u32
     ensures { result ≡ get_or ring.now i 0 }
 {
-    if i < ring.len() {
-        return ring[i];
-    }
-    0
+    ring.get(i).copied().unwrap_or(0)
 }
 
 // The words of a slot; a slot past the ring's end has zeros.
+#[tactic(auto, unfolding(trb::specs::Layouts::words_at))]
 pub fn slot_words(ring: &[u32], slot: usize) -> Words
     ensures { result ≡ words_at ring.now slot }
 {
@@ -75,36 +71,18 @@ pub fn outset() -> Consumer
     }
 }
 
-fn same(a: bool, b: bool) -> bool
-    ensures { result ≡ beq a b }
-{
-    if a { b } else { !b }
-}
-
-// Are these words the controller's? Their cycle bit is its own.
-fn is_owned(w: Words, c: Consumer) -> bool
-    ensures { result ≡ owned w (pointer c) }
-{
-    same(w.w3 % 2 == 1, c.state)
-}
-
-fn is_link(w: Words) -> bool
-    ensures { result ≡ eqb (type_of w) 6 }
-{
-    w.w3 / 1024 % 64 == 6
-}
-
-// What the controller does with the words at its slot.
+// What the controller does with the words at its slot: they are its own where their cycle bit is.
+#[tactic(auto, unfolding(crate::specs::Rule::does, trb::specs::Cycle::owned, trb::specs::Cycle::cycle_of, trb::specs::Cycle::type_of))]
 fn does(w: Words, c: Consumer) -> Step
     ensures { result ≡ does w c }
 {
-    if !is_owned(w, c) {
-        return Step::Nothing;
+    if (w.w3 % 2 == 1) != c.state {
+        Step::Nothing
+    } else if w.w3 / 1024 % 64 == 6 {
+        Step::Linked
+    } else {
+        Step::Took(w)
     }
-    if is_link(w) {
-        return Step::Linked;
-    }
-    Step::Took(w)
 }
 
 // One step, at a slot with these words.
@@ -113,26 +91,22 @@ fn step_at(w: Words, c: Consumer) -> Stepped
     ensures { result ≡ step_at w c }
 {
     let step = does(w, c);
-    match step {
-        Step::Nothing => Stepped { step, after: c },
-        Step::Linked => {
-            let after = Consumer {
-                slot: 0,
-                state: !c.state,
-            };
-            Stepped { step, after }
-        }
-        Step::Took(_) => {
-            let after = Consumer {
-                slot: c.slot + 1,
-                state: c.state,
-            };
-            Stepped { step, after }
-        }
-    }
+    let after = match step {
+        Step::Nothing => c,
+        Step::Linked => Consumer {
+            slot: 0,
+            state: !c.state,
+        },
+        Step::Took(_) => Consumer {
+            slot: c.slot + 1,
+            ..c
+        },
+    };
+    Stepped { step, after }
 }
 
 // One step of the controller at a slot of the ring.
+#[tactic(auto, unfolding(crate::specs::Rule::step))]
 pub fn take_step(ring: &[u32], c: Consumer) -> Stepped
     requires { 4 * c.slot + 4 ≤ length ring.now }
     ensures { result ≡ step ring.now c }

@@ -1,5 +1,6 @@
 -- A number with one digit more, and its limit. Assumes nothing.
 use Prim.Native.Nat.{ℕ, ◌+◌, ◌-◌, ◌*◌, ◌/◌, ◌≤◌, ◌<◌}
+use mathlib.Core.Bool.{true}
 use mathlib.Core.Path.{◌≡◌}
 use native.Mathlib.Nat.{le-div_iff_mul-le}
 use native.Mathlib.Omega.{arith}
@@ -12,6 +13,9 @@ module _ (value base digit most : ℕ) where
   pub by_fits : Decides (fits value base digit most) ((digit < base) × (value * base + digit ≤ most))
   unfolding fits
   by_fits = both (by_ltb digit base) (by_leb (value * base + digit) most)
+
+  pub fits_within : fits value base digit most ≡ true → value * base + digit ≤ most
+  fits_within e = (by_fits.so e).1
 
   -- The same without a product: for a digit that is not above the largest.
   pub divided : digit < base → digit ≤ most → leb value ((most - digit) / base) ≡ fits value base digit most

@@ -1,11 +1,12 @@
 -- Every call in any state, reached or not, forged or not, answers what document 01's rows say, number and values (`answered_is`): so its number is 0 exactly
 -- where none of its tests holds, and else that of the first test that does (`answered_exact`). Assumes nothing.
+use Rattle.std.specs.Prelude.{Option, Some, None, Ok}
+use Rattle.trb.specs.declared.Words.{Words}
 use Prim.Native.Nat.{ℕ}
 use mathlib.Core.Bool.{Bool, true, false, ◌&&◌, ◌||◌}
 use mathlib.Core.List.{List, [], ◌∷◌}
 use mathlib.Core.Logic.{⊎_elim}
 use mathlib.Core.Path.{◌≡◌, refl, sym, ap, ◌∙◌, subst}
-use borrow.Author.Tests.{eq-eqb, ne_eqb}
 use lib.Dec.{eqb, ltb}
 use lib.ListN.{length}
 use Rattle.base.specs.Fields.{flag}
@@ -13,21 +14,21 @@ use Rattle.base.specs.First.{pick, first}
 use Rattle.base.proofs.Chosen.{numbered, test_at, Exact, exact, declines, first_front, first_rest}
 use Rattle.base.proofs.Compare.{same_or_not}
 use Rattle.base.proofs.Decide.{both, by_eqb}
-use Rattle.sizes.specs.Sizes.{ring_size, control, bulk, interrupt, isoch}
+use Rattle.sizes.specs.Sizes.{ring_size}
 use Rattle.ids.specs.Lookup.{find_in}
-use Rattle.ids.specs.declared.Lookup.{Lookup}
-use Rattle.ids.specs.declared.Lookup.TheVariants.{At, Nothing}
 use Rattle.ids.proofs.AnyLaws.{true_or_false}
 use Rattle.finished.specs.Finished.{finished_at}
-use Rattle.finished.specs.declared.Finished.{Finished}
-use Rattle.finished.specs.declared.Finished.TheVariants as place
-use Rattle.records.specs.Records.{in_flight, stopped, record_at}
+use Rattle.records.specs.Kinds.{kind_is, control, bulk, interrupt, isoch}
+use Rattle.records.specs.States.{state_is, in_flight, stopped}
+use Rattle.records.specs.Records.{record_at}
+use Rattle.records.proofs.StateLaws.{eq_state, ne_state}
 use Rattle.records.specs.declared.Record.{Record}
 use Rattle.dock.specs.declared.Endpoint.{Endpoint}
 use Rattle.dock.specs.declared.Identity.{Identity}
-use Rattle.dock.specs.declared.ReclaimedOne.{ReclaimedOne}
-use Rattle.dock.specs.declared.Shape.{Shape}
+use Rattle.dock.specs.declared.After.{After}
+use Rattle.dock.specs.declared.Reclaimed.{Reclaimed}
 use Rattle.dock.specs.declared.Stored.TheVariants.{Slot, Last}
+use Rattle.dock.specs.declared.Shape.{Shape}
 use Rattle.dock.specs.RowOne.{next_of, is_none}
 use Rattle.dock.specs.Make.{make_tests, make_no, make}
 use Rattle.dock.specs.Configure.{plain_tests, plain_no}
@@ -88,33 +89,33 @@ complete_said e v number code fails size = by_tests v.cancelled (mismatched v) f
 
 module _ (e : Endpoint) (v : Record) (number : ℕ) where
   -- The answer and the endpoint that an ending makes.
-  abbrev pub ended : Ending → ReclaimedOne
+  abbrev pub ended : Ending → After Reclaimed
   ended going = nothing e
   ended (ended_by code fails size) = complete e v number code fails size
 
-  bulk_ends : (f : Finished) → bulk_by f e v number ≡ ended (bulk_ending f v)
-  bulk_ends place.Nothing = refl
-  bulk_ends (place.Event w) = refl
+  bulk_ends : (f : Option Words) → bulk_by f e v number ≡ ended (bulk_ending f v)
+  bulk_ends None = refl
+  bulk_ends (Some w) = refl
 
-  status_ends : (f : Finished) (recorded : ℕ) → status_by f e v number recorded ≡ ended (status_ending f (recorded_length v recorded))
-  status_ends place.Nothing recorded = refl
-  status_ends (place.Event w) recorded = refl
+  status_ends : (f : Option Words) (recorded : ℕ) → status_by f e v number recorded ≡ ended (status_ending f (recorded_length v recorded))
+  status_ends None recorded = refl
+  status_ends (Some w) recorded = refl
 
-  stage_by_lem : (b : Bool) (code : ℕ) (more : ReclaimedOne) (rest : Ending) → more ≡ ended rest
+  stage_by_lem : (b : Bool) (code : ℕ) (more : After Reclaimed) (rest : Ending) → more ≡ ended rest
       → after_stage (pick b onward (ends (complete e v number code true 0))) more ≡ ended (pick b rest (ended_by code true 0))
   stage_by_lem true code more rest q = q
   stage_by_lem false code more rest q = refl
 
-  stage_ends : (f : Finished) (more : ReclaimedOne) (rest : Ending) → more ≡ ended rest → after_stage (stage_by f e v number) more ≡ ended (stage_ending f rest)
-  stage_ends place.Nothing more rest q = q
-  stage_ends (place.Event w) more rest q = stage_by_lem (accepted (code_of w)) (code_of w) more rest q
+  stage_ends : (f : Option Words) (more : After Reclaimed) (rest : Ending) → more ≡ ended rest → after_stage (stage_by f e v number) more ≡ ended (stage_ending f rest)
+  stage_ends None more rest q = q
+  stage_ends (Some w) more rest q = stage_by_lem (accepted (code_of w)) (code_of w) more rest q
 
   swept_ends : (x : Swept) (packets : List ℕ) → swept_answer x e v number packets ≡ ended (swept_ending x (total v.count packets number))
   swept_ends unfinished packets = refl
   swept_ends (fatal code) packets = refl
   swept_ends (found code) packets = refl
 
-  by_kind : (b : Bool) (x y : ReclaimedOne × List ℕ × List ℕ) (p q : Ending) → x.0 ≡ ended p → y.0 ≡ ended q → (pick b x y).0 ≡ ended (pick b p q)
+  by_kind : (b : Bool) (x y : After Reclaimed × List ℕ × List ℕ) (p q : Ending) → x.0 ≡ ended p → y.0 ≡ ended q → (pick b x y).0 ≡ ended (pick b p q)
   by_kind true x y p q s t = s
   by_kind false x y p q s t = t
 
@@ -133,25 +134,25 @@ module _ (s : State) where
       let seen = data_seen e s.finished v in
       let status = finished_at s.finished (status_place e v) in
       let swept = sweep e.shape.slots s.finished v number v.count 0 s.packets in
-      by_kind e v number (eqb v.kind control) _ _ _ _
+      by_kind e v number (kind_is v.kind control) _ _ _ _
       (stage_ends e v number (finished_at s.finished v.place) _ _
       (stage_ends e v number seen _ _ (status_ends e v number status (recorded_by seen v))))
-      (by_kind e v number (eqb v.kind isoch) _ _ _ _ (swept_ends e v number swept.0 swept.1)
-      (by_kind e v number (eqb v.kind bulk || eqb v.kind interrupt) _ _ _ _ (bulk_ends e v number (finished_at s.finished v.place)) refl))
+      (by_kind e v number (kind_is v.kind isoch) _ _ _ _ (swept_ends e v number swept.0 swept.1)
+      (by_kind e v number (kind_is v.kind bulk || kind_is v.kind interrupt) _ _ _ _ (bulk_ends e v number (finished_at s.finished v.place)) refl))
 
-  by_state : (b : Bool) (x y : ReclaimedOne × List ℕ × List ℕ) (p q : Came)
+  by_state : (b : Bool) (x y : After Reclaimed × List ℕ × List ℕ) (p q : Came)
       → reclaimed_number x.0.answer ≡ said_of p → reclaimed_number y.0.answer ≡ said_of q
       → reclaimed_number (pick b x y).0.answer ≡ said_of (pick b p q)
   by_state true x y p q t u = t
   by_state false x y p q t u = u
 
-  came_said : (f : Lookup) → reclaimed_number (reclaim_found f e s.finished s.records s.packets).0.answer ≡ said_of (came_of s f)
-  came_said Nothing = refl
-  came_said (At r) =
+  came_said : (f : Option ℕ) → reclaimed_number (reclaim_found f e s.finished s.records s.packets).0.answer ≡ said_of (came_of s f)
+  came_said None = refl
+  came_said (Some r) =
       let v = record_at s.records r in
-      by_state (eqb v.state stopped) _ _ _ _ refl
-      (by_state (eqb v.state in_flight) _ _ _ _
-      (ap (λ (x : ReclaimedOne). reclaimed_number x.answer) (flying_ends v r) ∙ ended_said e v r (ending_of s v r))
+      by_state (state_is v.state stopped) _ _ _ _ refl
+      (by_state (state_is v.state in_flight) _ _ _ _
+      (ap (λ (x : After Reclaimed). reclaimed_number x.answer) (flying_ends v r) ∙ ended_said e v r (ending_of s v r))
       refl)
 
   -- A reclaim that is refused, with 1 or 12, has no values.
@@ -182,7 +183,7 @@ module _ (s : State) where
     pub reclaim_said : refused_no ≡ 0 → answered s (reclaims id) ≡ said_of (came_to s id)
     unfolding came_to
     reclaim_said z =
-        ap (λ (x : ReclaimedOne × List ℕ × List ℕ). reclaimed_number x.0.answer) (reclaim_acts e s.finished s.records s.packets id z)
+        ap (λ (x : After Reclaimed × List ℕ × List ℕ). reclaimed_number x.0.answer) (reclaim_acts e s.finished s.records s.packets id z)
         ∙ came_said (find_in s.records e.account.occupancy id)
 
     reclaim_done : refused_no ≡ 0 → answered s (reclaims id) ≡ said s (reclaims id)
@@ -216,13 +217,13 @@ module _ (s : State) (id : ℕ) where
     abbrev its : Record
     its = record_at s.records r
 
-    at_record : came_to s id ≡ came_of s (At r)
+    at_record : came_to s id ≡ came_of s (Some r)
     unfolding came_to
     at_record = ap (came_of s) (named_found s.records s.endpoint.account.occupancy id r names)
 
     -- A stopped one;
     pub came_stopped : its.state ≡ stopped → came_to s id ≡ to_stop
-    came_stopped is = at_record ∙ rw (eq-eqb its.state stopped is)
+    came_stopped is = at_record ∙ rw (eq_state its.state stopped is)
 
     -- one in flight, which its events end or do not;
     pub came_flying : its.state ≡ in_flight → came_to s id ≡ came_by (ending_of s its r) its
@@ -230,12 +231,12 @@ module _ (s : State) (id : ℕ) where
 
     -- and one that is neither.
     pub came_neither : (its.state ≡ stopped → ⊥) → (its.state ≡ in_flight → ⊥) → came_to s id ≡ nowhere
-    came_neither moves lands = at_record ∙ rw (ne_eqb its.state stopped moves, ne_eqb its.state in_flight lands)
+    came_neither moves lands = at_record ∙ rw (ne_state its.state stopped moves, ne_state its.state in_flight lands)
 
 -- ---- every call
 
 -- A store: its slot, and the last also the id and the doorbell word.
-stored_said : (b : Bool) (slot id bell : ℕ) → stored_number (pick b (Last slot id bell) (Slot slot)) ≡ (0, slot ∷ pick b (id ∷ bell ∷ []) [])
+stored_said : (b : Bool) (slot id bell : ℕ) → stored_number (pick b (Ok (Last slot id bell)) (Ok (Slot slot))) ≡ (0, slot ∷ pick b (id ∷ bell ∷ []) [])
 stored_said true slot id bell = refl
 stored_said false slot id bell = refl
 

@@ -1,5 +1,6 @@
 -- In document 01's numbers, of every state that is reached: a request that is over (0, 7, 8, 9) is answered 10 when it is reclaimed again, and nothing changes;
 -- after a retire the id of each request that was held is answered 6 to a cancel, and 7 and then 10 to reclaims. Assumes nothing.
+use Rattle.std.specs.Prelude.{Err, Result, Ok}
 use Prim.Native.Nat.{ℕ, ◌<◌}
 use mathlib.Core.Bool.{Bool, true, false, ◌||◌, false≢true}
 use mathlib.Core.List.{List, []}
@@ -13,10 +14,10 @@ use Rattle.base.proofs.Compare.{same_or_not}
 use Rattle.mask.specs.Occupancy.{held}
 use Rattle.sizes.specs.Sizes.{record_count}
 use Rattle.ids.specs.Free.{id_at}
-use Rattle.dock.specs.declared.Outcome.TheVariants.{Done}
 use Rattle.dock.specs.declared.Reclaimed.{Reclaimed}
+use Rattle.dock.specs.declared.Refusal.{Refusal}
+use Rattle.dock.specs.declared.After.{After}
 use Rattle.dock.specs.declared.Reclaimed.TheVariants as answer
-use Rattle.dock.specs.declared.ReclaimedOne.{ReclaimedOne}
 use Rattle.dock.specs.Numbers.{Numbered, outcome_number, reclaimed_number}
 use Rattle.dock.specs.Reclaim.{final, reclaim_tests, reclaim_no, reclaim}
 use Rattle.dock.specs.Retire.{record_no, retire}
@@ -38,13 +39,13 @@ refused_open false true c d t = false≢true t
 refused_open false false true d t = false≢true t
 refused_open false false false d t = d refl
 
-by_answer : (x : Reclaimed) → ((n : ℕ) → x ≡ answer.Refused n → ⊥) → is_over (reclaimed_number x).0 ≡ true → final x ≡ true
-by_answer (answer.Done c) never t = refl
-by_answer answer.Cancelled never t = refl
-by_answer (answer.Failed code) never t = refl
-by_answer answer.Mismatch never t = refl
-by_answer answer.Nothing never t = absurd (false≢true t)
-by_answer (answer.Refused row) never t = absurd (never row refl)
+by_answer : (x : Result Reclaimed Refusal) → ((why : Refusal) → x ≡ Err why → ⊥) → is_over (reclaimed_number x).0 ≡ true → final x ≡ true
+by_answer (Ok (answer.Done c)) never t = refl
+by_answer (Ok answer.Cancelled) never t = refl
+by_answer (Ok (answer.Failed code)) never t = refl
+by_answer (Ok answer.Mismatch) never t = refl
+by_answer (Ok answer.Nothing) never t = absurd (false≢true t)
+by_answer (Err why) never t = absurd (never why refl)
 
 module _ (s : State) (id : ℕ) where
   abbrev number : ℕ
@@ -67,7 +68,7 @@ module _ (s : State) (id : ℕ) where
       (same_or_not number 0)
 
 -- The answer and the state of a reclaim, by what it gives back.
-told_by : (t : State) (id : ℕ) {x : ReclaimedOne × List ℕ × List ℕ} → reclaim t.endpoint t.finished t.records t.packets id ≡ x
+told_by : (t : State) (id : ℕ) {x : After Reclaimed × List ℕ × List ℕ} → reclaim t.endpoint t.finished t.records t.packets id ≡ x
     → (answered t (reclaims id) ≡ reclaimed_number x.0.answer) × (after t (reclaims id) ≡ state_of x.0.endpoint t.ring t.finished x.1 x.2)
 told_by t id q = rw q (refl, refl)
 
@@ -89,7 +90,7 @@ module _ {s : State} (h : Reached s) (done : (answered s retires).0 ≡ 0) (r : 
   unfolding record_no
   passed = sym (ap (λ (x : Numbered). x.0) (answered_is s retires)) ∙ done
 
-  is_done : (retire s.endpoint s.records).0.answer ≡ Done
+  is_done : (retire s.endpoint s.records).0.answer ≡ Ok _
   is_done = ap (λ x. x.0.answer) (retire_acts s.endpoint s.records passed)
 
   pub retired_told : (answered t (cancels its) ≡ (6, []))
@@ -97,6 +98,6 @@ module _ {s : State} (h : Reached s) (done : (answered s retires).0 ≡ 0) (r : 
       × (let u = after t (reclaims its) in (answered u (reclaims its) ≡ (10, [])) × (after u (reclaims its) ≡ u))
   retired_told = (
     ap (λ x. outcome_number x.0) (retired_not_cancellable h is_done r l mine),
-    ap (λ (x : ReclaimedOne). reclaimed_number x.answer) (retired_cancelled h is_done r l mine),
+    ap (λ (x : After Reclaimed). reclaimed_number x.answer) (retired_cancelled h is_done r l mine),
     told_by (after t (reclaims its)) its (retired_once h is_done r l mine),
   )

@@ -1,5 +1,6 @@
 -- A cancel that is done marks the request in flight that its id names, and changes nothing else; and a marked request is answered 10 while its events have
 -- not ended it and then 7, whatever they tell. In any state, reached or not. Assumes nothing.
+use Rattle.std.specs.Prelude.{Some}
 use Prim.Native.Nat.{ℕ, ◌<◌}
 use mathlib.Core.Bool.{true}
 use mathlib.Core.List.{List, []}
@@ -11,8 +12,8 @@ use lib.ListN.{length}
 use Rattle.base.proofs.Chosen.{quiet}
 use Rattle.mask.specs.declared.Occupancy.{Occupancy}
 use Rattle.sizes.specs.Sizes.{record_words, records_size}
-use Rattle.ids.specs.declared.Lookup.TheVariants.{At}
-use Rattle.records.specs.Records.{in_flight, cancelled_word, word_at, is_set, record_at}
+use Rattle.records.specs.States.{in_flight}
+use Rattle.records.specs.Records.{cancelled_word, word_at, is_set, record_at}
 use Rattle.records.specs.declared.Record.{Record}
 use Rattle.records.proofs.RecordLaws.{word_set, word_kept, set_other}
 use Rattle.dock.specs.Numbers.{Numbered}
@@ -48,7 +49,7 @@ module _ (s : State) (id : ℕ) (done : (answered s (cancels id)).0 ≡ 0) where
     abbrev left : List ℕ
     left = (after s (cancels id)).records
 
-    is_marked : left ≡ marked s.records (At r)
+    is_marked : left ≡ marked s.records (Some r)
     is_marked = ap (λ x. x.1) (cancel_acts s.endpoint s.records id passed) ∙ ap (marked s.records) (named_found s.records occupancy id r named)
 
     -- which is marked then;

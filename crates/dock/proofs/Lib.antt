@@ -26,6 +26,7 @@ pub mod ReclaimPacketLaws
 pub mod ReclaimResidualLaws
 pub mod ReclaimSettleLaws
 pub mod RefusalAnswerLaws
+pub mod NumberLaws
 pub mod RefusalLaws
 pub mod RefusalRequestLaws
 pub mod RefusalRowLaws

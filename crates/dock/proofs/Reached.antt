@@ -11,7 +11,8 @@ use Rattle.mask.specs.Occupancy.{held, Sized}
 use Rattle.mask.specs.declared.Occupancy.{Occupancy}
 use Rattle.sizes.specs.Sizes.{ring_size, record_count, records_size, packets_size}
 use Rattle.ids.specs.Free.{id_at}
-use Rattle.records.specs.Records.{in_flight, stopped, record_at}
+use Rattle.records.specs.States.{in_flight, stopped}
+use Rattle.records.specs.Records.{record_at}
 use Rattle.dock.specs.declared.Account.{Account}
 use Rattle.dock.specs.Limits.{limits_hold}
 use Rattle.dock.specs.RowOne.{flies}

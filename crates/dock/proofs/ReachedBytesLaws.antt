@@ -1,21 +1,24 @@
 -- In every state that is reached from making with nothing under way, a bulk, interrupt or control request that is reclaimed by its id and done is told
 -- exactly the bytes that a controller moved, for every event that the standard lets it write; and it can write one for any bytes up to those asked for.
 -- Assumes nothing.
+use Rattle.std.specs.Prelude.{Some, None}
 use Prim.Native.Nat.{ℕ, ◌+◌, ◌^◌, ◌≤◌, ◌<◌}
 use mathlib.Core.Bool.{true, false}
 use mathlib.Core.List.{[]}
 use mathlib.Core.Logic.{◌⊎◌, ⊎_elim}
 use mathlib.Core.Path.{◌≡◌, sym, ap, ◌∙◌, subst}
 use native.Mathlib.Omega.{arith}
-use Rattle.sizes.specs.Sizes.{record_count, packet_count, control, bulk, interrupt, isoch}
+use Rattle.sizes.specs.Sizes.{record_count, packet_count}
 use Rattle.trb.specs.declared.Words.{Words}
 use Rattle.finished.specs.Finished.{finished_at}
-use Rattle.finished.specs.declared.Finished.TheVariants as place
 use Rattle.packets.specs.Packets.{packet_at}
-use Rattle.records.specs.Records.{in_flight, record_at}
+use Rattle.records.specs.Kinds.{control, bulk, interrupt, isoch}
+use Rattle.records.specs.States.{in_flight}
+use Rattle.records.specs.Records.{record_at}
 use Rattle.records.specs.declared.Record.{Record}
 use Rattle.dock.specs.declared.Endpoint.{Endpoint}
-use Rattle.dock.specs.declared.ReclaimedOne.{ReclaimedOne}
+use Rattle.dock.specs.declared.After.{After}
+use Rattle.dock.specs.declared.Reclaimed.{Reclaimed}
 use Rattle.dock.specs.Numbers.{reclaimed_number}
 use Rattle.dock.specs.Worth.{accepted}
 use Rattle.dock.specs.Residual.{Told, Tells, Writes}
@@ -53,7 +56,7 @@ module _ {s : State} (h : Reached s) (idle : s.endpoint.work.busy ≡ false) (id
 
   -- ---- bulk and interrupt
 
-  pub reached_bulk : (v.kind ≡ bulk) ⊎ (v.kind ≡ interrupt) → (w : Words) → finished_at s.finished v.place ≡ place.Event w → accepted (code_of w) ≡ true
+  pub reached_bulk : (v.kind ≡ bulk) ⊎ (v.kind ≡ interrupt) → (w : Words) → finished_at s.finished v.place ≡ Some w → accepted (code_of w) ≡ true
       → (t : Told) (n : ℕ) → Tells (code_of w) t → Writes t v.length (remaining_of w) n → answered s (reclaims id) ≡ done_with v id n
   reached_bulk = bulk_exact e s.finished s.records s.packets id r due
 
@@ -63,26 +66,26 @@ module _ {s : State} (h : Reached s) (idle : s.endpoint.work.busy ≡ false) (id
     brief : v.length + 1 < 2 ^ 64
     brief = omega (arith, (reached_brief h r l).1 kind)
 
-    module _ (d : Words) (some : 0 < v.length) (stands : finished_at s.finished (data_place e v) ≡ place.Event d) (b : accepted (code_of d) ≡ true)
+    module _ (d : Words) (some : 0 < v.length) (stands : finished_at s.finished (data_place e v) ≡ Some d) (b : accepted (code_of d) ≡ true)
         (t : Told) (n : ℕ) (says : Tells (code_of d) t) (is : Writes t v.length (remaining_of d) n) where
       -- With a data event the status event tells its bytes;
-      pub reached_data : (w : Words) → finished_at s.finished (status_place e v) ≡ place.Event w → accepted (code_of w) ≡ true
+      pub reached_data : (w : Words) → finished_at s.finished (status_place e v) ≡ Some w → accepted (code_of w) ≡ true
           → answered s (reclaims id) ≡ done_with v id n
       reached_data w here a =
           data_exact e s.finished s.records s.packets id r due kind setup w here a d some stands b (omega (arith, brief)) t n says is
 
       -- before that the answer is 10,
-      pub reached_waits : finished_at s.finished (status_place e v) ≡ place.Nothing → answered s (reclaims id) ≡ (10, [])
+      pub reached_waits : finished_at s.finished (status_place e v) ≡ None → answered s (reclaims id) ≡ (10, [])
       reached_waits empty =
-          ap (λ (x : ReclaimedOne). reclaimed_number x.answer)
+          ap (λ (x : After Reclaimed). reclaimed_number x.answer)
           (data_waits e s.finished s.records s.packets id r due kind setup d some stands b brief empty)
 
       -- and either way they are recorded.
       pub reached_records : (record_at (after s (reclaims id)).records r).recorded ≡ n + 1
       reached_records = moved_recorded e s.finished s.records s.packets id r due kind setup d some stands b brief t n says is
 
-    module _ (w : Words) (here : finished_at s.finished (status_place e v) ≡ place.Event w) (a : accepted (code_of w) ≡ true)
-        (empty : data_seen e s.finished v ≡ place.Nothing) where
+    module _ (w : Words) (here : finished_at s.finished (status_place e v) ≡ Some w) (a : accepted (code_of w) ≡ true)
+        (empty : data_seen e s.finished v ≡ None) where
       -- Without one it tells what is recorded,
       pub reached_recorded : (n : ℕ) → v.recorded ≡ n + 1 → answered s (reclaims id) ≡ done_with v id n
       reached_recorded n = recorded_told e s.finished s.records s.packets id r due kind setup w here a n empty
@@ -99,7 +102,7 @@ module _ {s : State} (h : Reached s) (idle : s.endpoint.work.busy ≡ false) (id
     (flying : (record_at s.records r).state ≡ in_flight) (wanted : (record_at s.records r).cancelled ≡ false)
     (kind : (record_at s.records r).kind ≡ control) (setup : Passes (finished_at s.finished (record_at s.records r).place))
     (d : Words) (some : 0 < (record_at s.records r).length)
-    (stands : finished_at s.finished (data_place s.endpoint (record_at s.records r)) ≡ place.Event d) (b : accepted (code_of d) ≡ true)
+    (stands : finished_at s.finished (data_place s.endpoint (record_at s.records r)) ≡ Some d) (b : accepted (code_of d) ≡ true)
     (t : Told) (n : ℕ) (says : Tells (code_of d) t) (is : Writes t (record_at s.records r).length (remaining_of d) n)
     {u : State} (q : Since r (after s (reclaims id)) u) where
   abbrev before : Record
@@ -126,15 +129,15 @@ module _ {s : State} (h : Reached s) (idle : s.endpoint.work.busy ≡ false) (id
 
   pub reached_later : u.endpoint.work.busy ≡ false → Has u id r → later.state ≡ in_flight → later.cancelled ≡ false
       → Passes (finished_at u.finished later.place)
-      → (data_seen u.endpoint u.finished later ≡ place.Nothing) ⊎ (finished_at u.finished (data_place u.endpoint later) ≡ place.Event d)
-      → (w : Words) → finished_at u.finished (status_place u.endpoint later) ≡ place.Event w → accepted (code_of w) ≡ true
+      → (data_seen u.endpoint u.finished later ≡ None) ⊎ (finished_at u.finished (data_place u.endpoint later) ≡ Some d)
+      → (w : Words) → finished_at u.finished (status_place u.endpoint later) ≡ Some w → accepted (code_of w) ≡ true
       → answered u (reclaims id) ≡ done_with later id n
   reached_later idle' has' flying' wanted' setup' seen w here a =
       let kind' = stays.kind ∙ kept.0 ∙ kind in
       ⊎_elim
-      (λ (empty : data_seen u.endpoint u.finished later ≡ place.Nothing).
+      (λ (empty : data_seen u.endpoint u.finished later ≡ None).
       reached_recorded reached idle' id r l has' flying' wanted' kind' setup' w here a empty n recorded)
-      (λ (still : finished_at u.finished (data_place u.endpoint later) ≡ place.Event d).
+      (λ (still : finished_at u.finished (data_place u.endpoint later) ≡ Some d).
       reached_data reached idle' id r l has' flying' wanted' kind' setup' d (omega (arith, size)) still b t n says
       (subst (λ (x : ℕ). Writes t x (remaining_of d) n) (sym size) is) w here a)
       seen

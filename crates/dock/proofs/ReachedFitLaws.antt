@@ -1,5 +1,6 @@
 -- In every state that is reached from making, row 1 of "When the dock says no" holds of nothing: the endpoint fits, no submission strays, and no
 -- record in flight is bad; and never more than L-2 TRBs are outstanding. Assumes nothing.
+use Rattle.std.specs.Prelude.{Option, Some, None, ⊤, Result}
 use Prim.Native.Nat.{ℕ, ◌+◌, ◌-◌, ◌*◌, ◌<◌, ◌≤◌}
 use mathlib.Core.Bool.{Bool, true, false, not, ◌&&◌, ◌||◌}
 use mathlib.Core.List.{List}
@@ -18,27 +19,28 @@ use Rattle.base.proofs.Decide.{Decides, both, if_so, by_leb, by_ltb, by_true, by
 use Rattle.mask.specs.Occupancy.{held}
 use Rattle.mask.specs.Occupancy as masks
 use Rattle.mask.proofs.OccupancyLaws.{none_free, taken_is}
-use Rattle.sizes.specs.Sizes.{fewest_slots, record_count, record_words, packet_count, isoch}
+use Rattle.sizes.specs.Sizes.{fewest_slots, record_count, record_words, packet_count}
 use Rattle.ids.specs.Free.{id_at, held_by}
 use Rattle.ids.specs.Lookup.{find_in, Finds}
-use Rattle.ids.specs.declared.Lookup.{Lookup}
-use Rattle.ids.specs.declared.Lookup.TheVariants as lookup
 use Rattle.ids.proofs.LookupLaws.{find_finds}
 use Rattle.trb.specs.declared.Words.{Words}
+use Rattle.records.specs.Kinds.{kind_is, isoch}
 use Rattle.records.proofs.RecordLaws.{record_put, record_other}
 use Rattle.ids.proofs.AnyLaws.{true_or_false, never_both, by_held}
-use Rattle.records.specs.Records.{in_flight, cancelled_word, record_at, set_word}
+use Rattle.records.specs.States.{state_is, in_flight}
+use Rattle.records.proofs.StateLaws.{state_true}
+use Rattle.records.specs.Records.{cancelled_word, record_at, set_word}
 use Rattle.records.specs.declared.Record.{Record}
-use Rattle.dock.specs.declared.Changed.{Changed}
+use Rattle.dock.specs.declared.After.{After}
+use Rattle.dock.specs.declared.ResetCommands.{ResetCommands}
+use Rattle.dock.specs.declared.Stored.{Stored}
+use Rattle.dock.specs.declared.Refusal.{Refusal}
+use Rattle.dock.specs.Refusals.{done}
 use Rattle.dock.specs.declared.Endpoint.{Endpoint}
 use Rattle.dock.specs.declared.Flags.{Flags}
 use Rattle.dock.specs.declared.Identity.{Identity}
-use Rattle.dock.specs.declared.Outcome.{Outcome}
-use Rattle.dock.specs.declared.Outcome.TheVariants.{Done}
 use Rattle.dock.specs.declared.Periodic.{Periodic}
-use Rattle.dock.specs.declared.ResetBegun.{ResetBegun}
 use Rattle.dock.specs.declared.Shape.{Shape}
-use Rattle.dock.specs.declared.StoredOne.{StoredOne}
 use Rattle.dock.specs.declared.Request.{Request}
 use Rattle.dock.specs.declared.What.{What}
 use Rattle.dock.specs.declared.What.TheVariants.{Control, Bulk, Interrupt, Isoch}
@@ -264,12 +266,12 @@ fresh_placed shape who ring finished records packets some = record {
 }
 
 make_placed : (ring finished records packets : List ℕ) (shape : Shape) (who : Identity)
-    → (make ring finished records packets shape who).0.answer ≡ Done
+    → (make ring finished records packets shape who).0.answer ≡ done
     → Placed (made_of (make ring finished records packets shape who))
 unfolding make
 make_placed ring finished records packets shape who =
     picked
-    (λ (t : Changed × List ℕ × List ℕ × List ℕ × List ℕ). t.0.answer ≡ Done → Placed (made_of t))
+    (λ (t : After ⊤ × List ℕ × List ℕ × List ℕ × List ℕ). t.0.answer ≡ done → Placed (made_of t))
     (eqb (make_no (length ring) (length finished) (length records) (length packets) shape who) 0)
     _ _
     (λ t d. fresh_placed shape who (zeros ring) (zeros finished) (zeros records) (zeros packets)
@@ -299,15 +301,15 @@ placed_parts s ring finished packets periodic flags k = record { placing = k.pla
 configure_placed : (s : State) (packet burst interval : ℕ) → Placed s → Placed (run.after s (configures packet burst interval))
 unfolding configure
 configure_placed s packet burst interval k =
-    picked (λ (c : Changed). Placed (state_of c.endpoint s.ring s.finished s.records s.packets)) (eqb (plain_no s.endpoint) 0) _ _
+    picked (λ (c : After ⊤). Placed (state_of c.endpoint s.ring s.finished s.records s.packets)) (eqb (plain_no s.endpoint) 0) _ _
     (λ t. placed_parts s s.ring s.finished s.packets _ _ k)
     (λ t. k)
 
 begin_placed : (s : State) → Placed s → Placed (run.after s begins)
 unfolding begin_reset
 begin_placed s k =
-    picked (λ (c : ResetBegun). Placed (state_of c.endpoint s.ring s.finished s.records s.packets)) (eqb (begin_no s.endpoint s.records) 0) _ _
-    (λ t. picked (λ (c : ResetBegun). Placed (state_of c.endpoint s.ring s.finished s.records s.packets)) s.endpoint.flags.halted _ _
+    picked (λ (c : After (Option ResetCommands)). Placed (state_of c.endpoint s.ring s.finished s.records s.packets)) (eqb (begin_no s.endpoint s.records) 0) _ _
+    (λ t. picked (λ (c : After (Option ResetCommands)). Placed (state_of c.endpoint s.ring s.finished s.records s.packets)) s.endpoint.flags.halted _ _
     (λ u. placed_parts s s.ring s.finished s.packets _ _ k)
     (λ u. k))
     (λ t. k)
@@ -315,7 +317,7 @@ begin_placed s k =
 end_placed : (s : State) (worked : Bool) → Placed s → Placed (run.after s (ends worked))
 unfolding end_reset
 end_placed s worked k =
-    picked (λ (c : Changed). Placed (state_of c.endpoint s.ring s.finished s.records s.packets)) (eqb (end_no s.endpoint) 0) _ _
+    picked (λ (c : After ⊤). Placed (state_of c.endpoint s.ring s.finished s.records s.packets)) (eqb (end_no s.endpoint) 0) _ _
     (λ t. placed_parts s s.ring s.finished s.packets _ _ k)
     (λ t. k)
 
@@ -417,7 +419,7 @@ module _ (s : State) (request : Request) (lengths : List ℕ) (h : Sound s) (k :
 start_placed : (s : State) (request : Request) (lengths : List ℕ) → Sound s → Placed s → Placed (run.after s (starts request lengths))
 unfolding start
 start_placed s request lengths h k =
-    picked (λ (a : Changed × List ℕ × List ℕ). Placed (state_of a.0.endpoint s.ring s.finished a.1 a.2))
+    picked (λ (a : After ⊤ × List ℕ × List ℕ). Placed (state_of a.0.endpoint s.ring s.finished a.1 a.2))
     (eqb (start_no s.endpoint s.records (length s.packets) request lengths) 0) _ _
     (λ t. started_placed s request lengths h k (eqb-true _ _ t))
     (λ t. k)
@@ -429,7 +431,7 @@ store_placed s h k =
     let e = s.endpoint in
     let v = record_at s.records e.work.number in
     let n = next_of e v in
-    picked (λ (a : StoredOne × List ℕ × List ℕ). Placed (state_of a.0.endpoint a.1 a.2 s.records s.packets))
+    picked (λ (a : After Stored × List ℕ × List ℕ). Placed (state_of a.0.endpoint a.1 a.2 s.records s.packets))
     (eqb (store_no e (length s.ring) (length s.finished) s.records (length s.packets)) 0) _ _
     (λ t.
     let b = store_busy s h (eqb-true _ _ t) in
@@ -472,15 +474,15 @@ mark_measured records q r mark m =
       get_or-set_other records (record_words * q + 4) (record_words * r + 6) mark 0 (λ e. omega arith),
     )
 
-marked_measured : (records : List ℕ) (f : Lookup) (r : ℕ) → Measured (record_at records r) → Measured (record_at (marked records f) r)
-marked_measured records lookup.Nothing r m = m
-marked_measured records (lookup.At q) r m = mark_measured records q r _ m
+marked_measured : (records : List ℕ) (f : Option ℕ) (r : ℕ) → Measured (record_at records r) → Measured (record_at (marked records f) r)
+marked_measured records None r m = m
+marked_measured records (Some q) r m = mark_measured records q r _ m
 
 cancel_placed : (s : State) (id : ℕ) → Placed s → Placed (run.after s (cancels id))
 unfolding cancel cancel_no cancel_tests
 cancel_placed s id k =
     let e = s.endpoint in
-    picked (λ (a : Outcome × List ℕ). Placed (state_of e s.ring s.finished a.1 s.packets)) (eqb (cancel_no e s.records id) 0) _ _
+    picked (λ (a : Result ⊤ Refusal × List ℕ). Placed (state_of e s.ring s.finished a.1 s.packets)) (eqb (cancel_no e s.records id) 0) _ _
     (λ t. idle_placed s e _ s.packets k k.placing (quiet (cancel_tests e s.records id) 1 refl (eqb-true _ _ t) (omega arith)) refl (omega arith)
     (marked_alike s.records (find_in s.records e.account.occupancy id)) (marked_measured s.records (find_in s.records e.account.occupancy id)) (λ r l f. f))
     (λ t. k)
@@ -489,7 +491,7 @@ retire_placed : (s : State) → Sound s → Placed s → Placed (run.after s ret
 unfolding retire record_no record_tests place_fits
 retire_placed s h k =
     let e = s.endpoint in
-    picked (λ (a : Changed × List ℕ). Placed (state_of a.0.endpoint s.ring s.finished a.1 s.packets)) (eqb (record_no e s.records) 0) _ _
+    picked (λ (a : After ⊤ × List ℕ). Placed (state_of a.0.endpoint s.ring s.finished a.1 s.packets)) (eqb (record_no e s.records) 0) _ _
     (λ t. record {
       placing = k.placing;
       straight = strays_none _ _ (λ b. absurd (never_both b (quiet (record_tests e s.records) 1 refl (eqb-true _ _ t) (omega arith))));
@@ -561,18 +563,18 @@ pub reached_capacity : {s : State} → Reached s → s.endpoint.account.outstand
 reached_capacity r = (reached_placed r).capacity
 
 -- and no record that an id finds is bad.
-lookup_fits : (s : State) → Placed s → (id : ℕ) (f : Lookup) → Finds record_count (held_by (held s.endpoint.account.occupancy) (id_at s.records) id) f
+lookup_fits : (s : State) → Placed s → (id : ℕ) (f : Option ℕ) → Finds record_count (held_by (held s.endpoint.account.occupancy) (id_at s.records) id) f
     → bad_record s.endpoint s.records f ≡ false
-lookup_fits s k id lookup.Nothing low = refl
-lookup_fits s k id (lookup.At r) low =
+lookup_fits s k id None low = refl
+lookup_fits s k id (Some r) low =
     let v = record_at s.records r in
     let mine = (by_held (held s.endpoint.account.occupancy) (id_at s.records) id r).so low.here in
     ⊎_elim
-    (λ (t : eqb v.state in_flight ≡ true).
-    let b = k.bounds r low.within (if_so (by_flies s.records s.endpoint.account.occupancy r) (mine.0, eqb-true _ _ t)) in
-    rw (t, lt-leb s.endpoint.shape.slots (v.place + 1) b.0, le-ltb packet_count v.count b.1) (and_false (eqb v.kind isoch)))
-    (λ (t : eqb v.state in_flight ≡ false). rw t)
-    (true_or_false (eqb v.state in_flight))
+    (λ (t : state_is v.state in_flight ≡ true).
+    let b = k.bounds r low.within (if_so (by_flies s.records s.endpoint.account.occupancy r) (mine.0, state_true v.state in_flight t)) in
+    rw (t, lt-leb s.endpoint.shape.slots (v.place + 1) b.0, le-ltb packet_count v.count b.1) (and_false (kind_is v.kind isoch)))
+    (λ (t : state_is v.state in_flight ≡ false). rw t)
+    (true_or_false (state_is v.state in_flight))
 
 pub reached_not_bad : {s : State} → Reached s → (id : ℕ) → bad_record s.endpoint s.records (find_in s.records s.endpoint.account.occupancy id) ≡ false
 reached_not_bad {s} r id =

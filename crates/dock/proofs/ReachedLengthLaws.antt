@@ -1,5 +1,6 @@
 -- In every state that is reached from making no record of a bulk or interrupt request asks for more than 65,536 bytes, and none of a control request for
 -- more than 65,535. Assumes nothing.
+use Rattle.std.specs.Prelude.{Option, Some, None, Result, ⊤}
 use Prim.Native.Nat.{ℕ, zero, suc, ◌+◌, ◌*◌, ◌≤◌, ◌<◌}
 use mathlib.Core.Bool.{false}
 use mathlib.Core.List.{List}
@@ -10,18 +11,19 @@ use borrow.Author.Tests.{eqb-true, ltb-false}
 use lib.Dec.{eqb}
 use lib.ListN.{length}
 use Rattle.base.proofs.Compare.{same_or_not}
-use Rattle.sizes.specs.Sizes.{record_count, record_words, longest, longest_control, control, isoch}
+use Rattle.sizes.specs.Sizes.{record_count, record_words, longest, longest_control}
 use Rattle.mask.specs.declared.Occupancy.{Occupancy}
 use Rattle.ids.specs.Lookup.{find_in}
-use Rattle.ids.specs.declared.Lookup.{Lookup}
-use Rattle.ids.specs.declared.Lookup.TheVariants.{At, Nothing}
-use Rattle.records.specs.Records.{stopped, state_word, cancelled_word, word_at, record_at, set_word}
+use Rattle.records.specs.Kinds.{control, bulk, interrupt, isoch}
+use Rattle.records.proofs.KindLaws.{kind_false}
+use Rattle.records.specs.States.{word_of_state, stopped}
+use Rattle.records.specs.Records.{state_word, cancelled_word, word_at, record_at, set_word}
 use Rattle.records.specs.declared.Record.{Record}
 use Rattle.records.proofs.RecordLaws.{word_kept}
-use Rattle.dock.specs.declared.Changed.{Changed}
+use Rattle.dock.specs.declared.Refusal.{Refusal}
+use Rattle.dock.specs.declared.After.{After}
+use Rattle.dock.specs.Refusals.{done}
 use Rattle.dock.specs.declared.Identity.{Identity}
-use Rattle.dock.specs.declared.Outcome.{Outcome}
-use Rattle.dock.specs.declared.Outcome.TheVariants.{Done}
 use Rattle.dock.specs.declared.Request.{Request}
 use Rattle.dock.specs.declared.Shape.{Shape}
 use Rattle.dock.specs.declared.What.{What}
@@ -64,15 +66,15 @@ word_keeps records r k value small a b q = (
 )
 
 -- A cancel marks,
-marked_keeps : (records : List ℕ) (f : Lookup) → Keeps records (marked records f)
-marked_keeps records Nothing r = (refl, refl)
-marked_keeps records (At q) r = word_keeps records q cancelled_word 1 (omega arith) (λ e. omega arith) (λ e. omega arith) r
+marked_keeps : (records : List ℕ) (f : Option ℕ) → Keeps records (marked records f)
+marked_keeps records None r = (refl, refl)
+marked_keeps records (Some q) r = word_keeps records q cancelled_word 1 (omega arith) (λ e. omega arith) (λ e. omega arith) r
 
 cancel_brief : (s : State) (id : ℕ) → Brief s.records → Brief (after s (cancels id)).records
 unfolding cancel
 cancel_brief s id b =
     let e = s.endpoint in
-    picked (λ (a : Outcome × List ℕ). Brief a.1) (eqb (cancel_no e s.records id) 0) _ _
+    picked (λ (a : Result ⊤ Refusal × List ℕ). Brief a.1) (eqb (cancel_no e s.records id) 0) _ _
     (λ t. brief_kept s.records _ (marked_keeps s.records (find_in s.records e.account.occupancy id)) b)
     (λ t. b)
 
@@ -83,7 +85,7 @@ retired_keeps zero occupancy outstanding records r = (refl, refl)
 retired_keeps (suc n) occupancy outstanding records r =
     let s = retired_below n occupancy outstanding records in
     let before = retired_keeps n occupancy outstanding records r in
-    let set = word_keeps s.1 n state_word stopped (omega arith) (λ e. omega arith) (λ e. omega arith) r in
+    let set = word_keeps s.1 n state_word (word_of_state stopped) (omega arith) (λ e. omega arith) (λ e. omega arith) r in
     picked (λ (x : ℕ × List ℕ). (word_at x.1 r 1 ≡ word_at records r 1) × (word_at x.1 r 6 ≡ word_at records r 6)) (flies s.1 occupancy n) _ _
     (λ t. (set.0 ∙ before.0, set.1 ∙ before.1)) (λ t. before)
 
@@ -91,7 +93,7 @@ retire_brief : (s : State) → Brief s.records → Brief (after s retires).recor
 unfolding retire
 retire_brief s b =
     let e = s.endpoint in
-    picked (λ (a : Changed × List ℕ). Brief a.1) (eqb (record_no e s.records) 0) _ _
+    picked (λ (a : After ⊤ × List ℕ). Brief a.1) (eqb (record_no e s.records) 0) _ _
     (λ t. brief_kept s.records _ (retired_keeps record_count e.account.occupancy e.account.outstanding s.records) b)
     (λ t. b)
 
@@ -114,18 +116,18 @@ reclaim_brief s id b =
 -- ---- a start
 
 asked : (what : What) (size : ℕ) (lengths : List ℕ) → too_long what size lengths ≡ false
-    → ((kind_of what ≡ isoch → ⊥) → size ≤ longest) × (kind_of what ≡ control → size ≤ longest_control)
+    → ((Some (kind_of what) ≡ isoch → ⊥) → size ≤ longest) × (Some (kind_of what) ≡ control → size ≤ longest_control)
 unfolding too_long
 asked (Control type request value index) size lengths t = let l = ltb-false longest_control size t in ((λ d. omega arith), (λ d. l))
-asked (Bulk incoming) size lengths t = ((λ d. ltb-false longest size t), (λ d. absurd (omega arith)))
-asked (Interrupt incoming) size lengths t = ((λ d. ltb-false longest size t), (λ d. absurd (omega arith)))
-asked (Isoch incoming) size lengths t = ((λ d. absurd (d refl)), (λ d. absurd (omega arith)))
+asked (Bulk incoming) size lengths t = ((λ d. ltb-false longest size t), (λ d. absurd (kind_false bulk control refl d)))
+asked (Interrupt incoming) size lengths t = ((λ d. ltb-false longest size t), (λ d. absurd (kind_false interrupt control refl d)))
+asked (Isoch incoming) size lengths t = ((λ d. absurd (d refl)), (λ d. absurd (kind_false isoch control refl d)))
 
 start_brief : (s : State) (request : Request) (lengths : List ℕ) → Brief s.records → Brief (after s (starts request lengths)).records
 unfolding start
 start_brief s request lengths b =
     let e = s.endpoint in
-    picked (λ (a : Changed × List ℕ × List ℕ). Brief a.1) (eqb (start_no e s.records (length s.packets) request lengths) 0) _ _
+    picked (λ (a : After ⊤ × List ℕ × List ℕ). Brief a.1) (eqb (start_no e s.records (length s.packets) request lengths) 0) _ _
     (λ t.
     let passed = eqb-true (start_no e s.records (length s.packets) request lengths) 0 t in
     let k = start_admitted e s.records s.packets request lengths passed in
@@ -145,11 +147,11 @@ zeros_brief l r low =
     let none = zero_at (length l) (record_words * r + 6) in
     ((λ d. omega arith), (λ d. omega arith))
 
-make_brief : (ring finished records packets : List ℕ) (shape : Shape) (who : Identity) → (make ring finished records packets shape who).0.answer ≡ Done
+make_brief : (ring finished records packets : List ℕ) (shape : Shape) (who : Identity) → (make ring finished records packets shape who).0.answer ≡ done
     → Brief (make ring finished records packets shape who).3
 unfolding make
 make_brief ring finished records packets shape who =
-    picked (λ (t : Changed × List ℕ × List ℕ × List ℕ × List ℕ). t.0.answer ≡ Done → Brief t.3)
+    picked (λ (t : After ⊤ × List ℕ × List ℕ × List ℕ × List ℕ). t.0.answer ≡ done → Brief t.3)
     (eqb (make_no (length ring) (length finished) (length records) (length packets) shape who) 0) _ _
     (λ t d. zeros_brief records) (λ t d. absurd (not_done _ d))
 

@@ -1,5 +1,7 @@
 -- In every state that is reached from making no packet asks for more than 65,536 bytes, so that a packet that is counted keeps all that its event is
 -- worth. Assumes nothing.
+use Rattle.std.specs.Prelude.{Option, Some, None, ⊤}
+use Rattle.trb.specs.declared.Words.{Words}
 use Prim.Native.Nat.{ℕ, zero, suc, ◌≤◌, ◌<◌}
 use mathlib.Core.Bool.{Bool, true, false, ◌||◌}
 use mathlib.Core.List.{List}
@@ -11,21 +13,21 @@ use lib.Dec.{eqb}
 use lib.ListN.{length, get_or, replicate}
 use Rattle.base.specs.First.{pick}
 use Rattle.base.proofs.Compare.{same_or_not, lt_or_le}
-use Rattle.sizes.specs.Sizes.{record_count, packet_count, packets_size, longest, control, bulk, interrupt, isoch}
+use Rattle.sizes.specs.Sizes.{record_count, packet_count, packets_size, longest}
 use Rattle.ids.specs.Lookup.{find_in}
-use Rattle.ids.specs.declared.Lookup.{Lookup}
-use Rattle.ids.specs.declared.Lookup.TheVariants.{At, Nothing}
 use Rattle.finished.specs.Finished.{finished_at}
-use Rattle.finished.specs.declared.Finished.{Finished}
-use Rattle.finished.specs.declared.Finished.TheVariants as place
 use Rattle.packets.specs.Packets.{packet_index, packet_at}
-use Rattle.records.specs.Records.{in_flight, stopped, record_at}
+use Rattle.records.specs.Kinds.{kind_is, control, bulk, interrupt, isoch}
+use Rattle.records.proofs.KindLaws.{kind_true}
+use Rattle.records.specs.States.{state_is, in_flight, stopped}
+use Rattle.records.proofs.StateLaws.{state_true}
+use Rattle.records.specs.Records.{record_at}
 use Rattle.packets.specs.declared.Packet.{Packet}
 use Rattle.dock.specs.declared.Endpoint.{Endpoint}
 use Rattle.dock.specs.declared.Identity.{Identity}
-use Rattle.dock.specs.declared.ReclaimedOne.{ReclaimedOne}
-use Rattle.dock.specs.declared.Changed.{Changed}
-use Rattle.dock.specs.declared.Outcome.TheVariants.{Done}
+use Rattle.dock.specs.declared.After.{After}
+use Rattle.dock.specs.declared.Reclaimed.{Reclaimed}
+use Rattle.dock.specs.Refusals.{done}
 use Rattle.dock.specs.declared.Request.{Request}
 use Rattle.dock.specs.declared.Shape.{Shape}
 use Rattle.dock.specs.declared.What.{What}
@@ -54,13 +56,13 @@ credited_asks : (x : Worth) (p : Packet) → (credited x p).requested ≡ p.requ
 credited_asks refused p = refl
 credited_asks (bytes n) p = refl
 
-unmarked_asks : (closes : Bool) (f : Finished) (p : Packet) → (unmarked_by closes f p).requested ≡ p.requested
-unmarked_asks true place.Nothing p = refl
-unmarked_asks false place.Nothing p = refl
-unmarked_asks closes (place.Event w) p = credited_asks (worth (code_of w) p.requested (remaining_of w)) p
+unmarked_asks : (closes : Bool) (f : Option Words) (p : Packet) → (unmarked_by closes f p).requested ≡ p.requested
+unmarked_asks true None p = refl
+unmarked_asks false None p = refl
+unmarked_asks closes (Some w) p = credited_asks (worth (code_of w) p.requested (remaining_of w)) p
 
 -- A packet keeps what it asks for.
-settled_asks : (closes : Bool) (f : Finished) (p : Packet) → (settled closes f p).requested ≡ p.requested
+settled_asks : (closes : Bool) (f : Option Words) (p : Packet) → (settled closes f p).requested ≡ p.requested
 settled_asks closes f p = by_mark p.marked
   where
     by_mark : (b : Bool) → (pick b p (unmarked_by closes f p)).requested ≡ p.requested
@@ -69,24 +71,24 @@ settled_asks closes f p = by_mark p.marked
 
 -- The packets of a reclaim: as they were, or an ISO request is walked over.
 module _ (e : Endpoint) (finished records packets : List ℕ) (id : ℕ) where
-  abbrev Kept : ReclaimedOne × List ℕ × List ℕ → Type 0
+  abbrev Kept : After Reclaimed × List ℕ × List ℕ → Type 0
   Kept t = (t.2 ≡ packets) ⊎ ((r : ℕ) × Walks e finished records packets id r)
 
   flying_kept : (r : ℕ) → ((record_at records r).kind ≡ isoch → Walks e finished records packets id r) → Kept (reclaim_flying e finished records packets (record_at records r) r)
   unfolding reclaim_flying
   flying_kept r walks =
       let v = record_at records r in
-      picked Kept (eqb v.kind control) _ _ (λ t. inl refl)
-      (λ t. picked Kept (eqb v.kind isoch) _ _ (λ u. inr (r, walks (eqb-true _ _ u)))
-      (λ u. picked Kept (eqb v.kind bulk || eqb v.kind interrupt) _ _ (λ z. inl refl) (λ z. inl refl)))
+      picked Kept (kind_is v.kind control) _ _ (λ t. inl refl)
+      (λ t. picked Kept (kind_is v.kind isoch) _ _ (λ u. inr (r, walks (kind_true (record_at records r).kind isoch u)))
+      (λ u. picked Kept (kind_is v.kind bulk || kind_is v.kind interrupt) _ _ (λ z. inl refl) (λ z. inl refl)))
 
-  found_kept : (f : Lookup) → find_in records e.account.occupancy id ≡ f → reclaim_no e (length finished) records (length packets) id ≡ 0 → Kept (reclaim_found f e finished records packets)
-  found_kept Nothing is pass = inl refl
-  found_kept (At r) is pass =
+  found_kept : (f : Option ℕ) → find_in records e.account.occupancy id ≡ f → reclaim_no e (length finished) records (length packets) id ≡ 0 → Kept (reclaim_found f e finished records packets)
+  found_kept None is pass = inl refl
+  found_kept (Some r) is pass =
       let v = record_at records r in
-      picked Kept (eqb v.state stopped) _ _ (λ t. inl refl)
-      (λ t. picked Kept (eqb v.state in_flight) _ _
-      (λ u. flying_kept r (λ kind. record { admitted = pass; holder = is; flying = eqb-true _ _ u; iso = kind }))
+      picked Kept (state_is v.state stopped) _ _ (λ t. inl refl)
+      (λ t. picked Kept (state_is v.state in_flight) _ _
+      (λ u. flying_kept r (λ kind. record { admitted = pass; holder = is; flying = state_true v.state in_flight u; iso = kind }))
       (λ u. inl refl))
 
   pub reclaim_packets : Kept (reclaim e finished records packets id)
@@ -104,7 +106,7 @@ module _ (e : Endpoint) (finished records packets : List ℕ) (id : ℕ) where
 
     own_asks : (k : ℕ) → k < packet_count → (packet_at (reclaim e finished records packets id).2 r k).requested ≡ (packet_at packets r k).requested
     own_asks k small =
-        ap (λ (x : ReclaimedOne × List ℕ × List ℕ). (packet_at x.2 r k).requested) (reclaim_walks e finished records packets id r h)
+        ap (λ (x : After Reclaimed × List ℕ × List ℕ). (packet_at x.2 r k).requested) (reclaim_walks e finished records packets id r h)
         ∙ ⊎_elim
         (λ (l : k < walk.upto). ap (λ (p : Packet). p.requested) (walk.passed k l)
         ∙ settled_asks (is_found swept.0) (finished_at finished (place_of e.shape.slots (record_at records r).place k)) (packet_at packets r k))
@@ -114,7 +116,7 @@ module _ (e : Endpoint) (finished records packets : List ℕ) (id : ℕ) where
     other_asks : (q k : ℕ) → (q ≡ r → ⊥) → k < packet_count → packet_at (reclaim e finished records packets id).2 q k ≡ packet_at packets q k
     unfolding reclaim_iso
     other_asks q k d small =
-        ap (λ (x : ReclaimedOne × List ℕ × List ℕ). packet_at x.2 q k) (reclaim_walks e finished records packets id r h)
+        ap (λ (x : After Reclaimed × List ℕ × List ℕ). packet_at x.2 q k) (reclaim_walks e finished records packets id r h)
         ∙ (iso_own e finished packets (record_at records r) r (few e finished records packets id r h)).others q k d small
 
   reclaim_modest : Modest packets → Modest (reclaim e finished records packets id).2
@@ -157,7 +159,7 @@ module _ (packets : List ℕ) (r : ℕ) (lengths : List ℕ) (sized : length pac
 start_modest : (s : State) (request : Request) (lengths : List ℕ) → Modest s.packets → Modest (after s (starts request lengths)).packets
 unfolding start
 start_modest s request lengths m =
-    picked (λ (a : Changed × List ℕ × List ℕ). Modest a.2) (eqb (start_no s.endpoint s.records (length s.packets) request lengths) 0) _ _
+    picked (λ (a : After ⊤ × List ℕ × List ℕ). Modest a.2) (eqb (start_no s.endpoint s.records (length s.packets) request lengths) 0) _ _
     (λ t.
     let k = start_admitted s.endpoint s.records s.packets request lengths (eqb-true _ _ t) in
     write_modest s.packets (record_taken s.endpoint) lengths k.packets_size_lem k.free.within m request.what request.length k.short)
@@ -174,11 +176,11 @@ zeros_modest : (l : List ℕ) → Modest (zeros l)
 unfolding packet_at
 zeros_modest l r k low small = rw (zero_at (length l) (packet_index r k)) (omega arith)
 
-make_modest : (ring finished records packets : List ℕ) (shape : Shape) (who : Identity) → (make ring finished records packets shape who).0.answer ≡ Done
+make_modest : (ring finished records packets : List ℕ) (shape : Shape) (who : Identity) → (make ring finished records packets shape who).0.answer ≡ done
     → Modest (make ring finished records packets shape who).4
 unfolding make
 make_modest ring finished records packets shape who =
-    picked (λ (t : Changed × List ℕ × List ℕ × List ℕ × List ℕ). t.0.answer ≡ Done → Modest t.4)
+    picked (λ (t : After ⊤ × List ℕ × List ℕ × List ℕ × List ℕ). t.0.answer ≡ done → Modest t.4)
     (eqb (make_no (length ring) (length finished) (length records) (length packets) shape who) 0) _ _
     (λ t d. zeros_modest packets) (λ t d. absurd (not_done _ d))
 

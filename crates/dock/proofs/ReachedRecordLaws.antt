@@ -1,5 +1,6 @@
 -- In every state that is reached from making, each call but a reclaim of its own id leaves of a held record what a later reclaim tells of it: id, kind,
 -- direction, length, place, and what was recorded of its data; and so do any such calls in a row. Assumes nothing.
+use Rattle.std.specs.Prelude.{Option, Some, None, Result, ⊤}
 use Prim.Native.Nat.{ℕ, zero, suc, ◌<◌}
 use mathlib.Core.Bool.{true}
 use mathlib.Core.List.{List}
@@ -12,14 +13,14 @@ use Rattle.mask.specs.Occupancy.{held}
 use Rattle.mask.specs.declared.Occupancy.{Occupancy}
 use Rattle.sizes.specs.Sizes.{record_count, record_words}
 use Rattle.ids.specs.Lookup.{find_in}
-use Rattle.ids.specs.declared.Lookup.{Lookup}
-use Rattle.ids.specs.declared.Lookup.TheVariants.{At, Nothing}
 use Rattle.ids.proofs.AnyLaws.{never_both}
-use Rattle.records.specs.Records.{stopped, state_word, cancelled_word, is_set, word_at, record_at}
+use Rattle.records.specs.Kinds.{kind_in}
+use Rattle.records.specs.States.{word_of_state, stopped}
+use Rattle.records.specs.Records.{state_word, cancelled_word, is_set, word_at, record_at}
 use Rattle.records.specs.declared.Record.{Record}
 use Rattle.records.proofs.RecordLaws.{word_kept}
-use Rattle.dock.specs.declared.Changed.{Changed}
-use Rattle.dock.specs.declared.Outcome.{Outcome}
+use Rattle.dock.specs.declared.Refusal.{Refusal}
+use Rattle.dock.specs.declared.After.{After}
 use Rattle.dock.specs.declared.Request.{Request}
 use Rattle.dock.specs.RowOne.{flies}
 use Rattle.dock.specs.Start.{start_no, start}
@@ -68,7 +69,7 @@ same_words : (records : List ℕ) (r : ℕ) (after : List ℕ) → Stays records
 unfolding record_at
 same_words records r after stays = record {
   id = stays 0 (omega arith) (λ e. omega arith) (λ e. omega arith);
-  kind = stays 1 (omega arith) (λ e. omega arith) (λ e. omega arith);
+  kind = ap kind_in (stays 1 (omega arith) (λ e. omega arith) (λ e. omega arith));
   incoming = ap is_set (stays 2 (omega arith) (λ e. omega arith) (λ e. omega arith));
   size = stays 6 (omega arith) (λ e. omega arith) (λ e. omega arith);
   place = stays 8 (omega arith) (λ e. omega arith) (λ e. omega arith);
@@ -77,9 +78,9 @@ same_words records r after stays = record {
 
 -- ---- the calls
 
-mark_stays : (records : List ℕ) (f : Lookup) (r : ℕ) → Stays records r (marked records f)
-mark_stays records Nothing r k l a b = refl
-mark_stays records (At q) r k l a b = word_kept records q cancelled_word 1 r k (λ e. b (omega arith))
+mark_stays : (records : List ℕ) (f : Option ℕ) (r : ℕ) → Stays records r (marked records f)
+mark_stays records None r k l a b = refl
+mark_stays records (Some q) r k l a b = word_kept records q cancelled_word 1 r k (λ e. b (omega arith))
 
 retired_stays : (n : ℕ) (occupancy : Occupancy) (outstanding : ℕ) (records : List ℕ) (r : ℕ) → Stays records r (retired_below n occupancy outstanding records).1
 unfolding retired_below
@@ -88,7 +89,7 @@ retired_stays (suc n) occupancy outstanding records r k l a b =
     let s = retired_below n occupancy outstanding records in
     let before = retired_stays n occupancy outstanding records r k l a b in
     picked (λ (x : ℕ × List ℕ). word_at x.1 r k ≡ word_at records r k) (flies s.1 occupancy n) _ _
-    (λ t. word_kept s.1 n state_word stopped r k (λ e. a (omega arith)) ∙ before) (λ t. before)
+    (λ t. word_kept s.1 n state_word (word_of_state stopped) r k (λ e. a (omega arith)) ∙ before) (λ t. before)
 
 module _ (s : State) (r : ℕ) where
   abbrev v : Record
@@ -98,14 +99,14 @@ module _ (s : State) (r : ℕ) where
   unfolding cancel
   cancel_stays id =
       let f = find_in s.records s.endpoint.account.occupancy id in
-      picked (λ (a : Outcome × List ℕ). Same v (record_at a.1 r)) (eqb (cancel_no s.endpoint s.records id) 0) _ _
+      picked (λ (a : Result ⊤ Refusal × List ℕ). Same v (record_at a.1 r)) (eqb (cancel_no s.endpoint s.records id) 0) _ _
       (λ t. same_words s.records r (marked s.records f) (mark_stays s.records f r)) (λ t. same_whole v v refl)
 
   retire_stays : Same v (record_at (after s retires).records r)
   unfolding retire
   retire_stays =
       let a = s.endpoint.account in
-      picked (λ (a : Changed × List ℕ). Same v (record_at a.1 r)) (eqb (record_no s.endpoint s.records) 0) _ _
+      picked (λ (a : After ⊤ × List ℕ). Same v (record_at a.1 r)) (eqb (record_no s.endpoint s.records) 0) _ _
       (λ t. same_words s.records r (retired_below record_count a.occupancy a.outstanding s.records).1
       (retired_stays record_count a.occupancy a.outstanding s.records r))
       (λ t. same_whole v v refl)
@@ -116,7 +117,7 @@ module _ (s : State) (r : ℕ) where
   unfolding start
   start_stays request lengths mine =
       let e = s.endpoint in
-      picked (λ (a : Changed × List ℕ × List ℕ). Same v (record_at a.1 r)) (eqb (start_no e s.records (length s.packets) request lengths) 0) _ _
+      picked (λ (a : After ⊤ × List ℕ × List ℕ). Same v (record_at a.1 r)) (eqb (start_no e s.records (length s.packets) request lengths) 0) _ _
       (λ t.
       let passed = eqb-true (start_no e s.records (length s.packets) request lengths) 0 t in
       same_whole v _

@@ -1,4 +1,5 @@
 -- Every call keeps the invariant, so every state that is reached from making has it (`reached_sound`). Assumes nothing.
+use Rattle.std.specs.Prelude.{Option, Some, None, Err, ⊤, Result}
 use Prim.Native.Nat.{ℕ, ◌+◌, ◌-◌, ◌*◌, ◌/◌, ◌%◌, ◌<◌, ◌≤◌}
 use mathlib.Core.Bool.{Bool, true, false, ◌&&◌, ◌||◌, and-eq-true_iff}
 use mathlib.Core.List.{List, [], ◌∷◌}
@@ -13,41 +14,39 @@ use Rattle.base.proofs.Chosen.{quiet}
 use Rattle.base.proofs.Decide.{Decides, both, by_eqb, by_ltb, by_leb, by_true, by_false}
 use Rattle.mask.specs.Occupancy.{held, LowestFree, Tells}
 use Rattle.mask.specs.Occupancy as masks
-use Rattle.mask.specs.declared.Found.{Found}
-use Rattle.mask.specs.declared.Found.TheVariants as place
 use Rattle.mask.specs.declared.Occupancy.{Occupancy}
 use Rattle.mask.proofs.OccupancyLaws.{none_free, none_sized, lowest_tells}
-use Rattle.sizes.specs.Sizes.{ring_size, record_count, records_size, packet_count, packets_size, isoch}
+use Rattle.sizes.specs.Sizes.{ring_size, record_count, records_size, packet_count, packets_size}
 use Rattle.ids.specs.Free.{id_at, held_by}
 use Rattle.ids.specs.Lookup.{find_in, Lowest, Finds}
-use Rattle.ids.specs.declared.Lookup.{Lookup}
-use Rattle.ids.specs.declared.Lookup.TheVariants as lookup
 use Rattle.ids.proofs.AnyLaws.{true_or_false, never_both, by_held}
 use Rattle.ids.proofs.LookupLaws.{find_finds}
 use Rattle.trb.specs.Layouts.{put_words}
 use Rattle.trb.specs.declared.Words.{Words}
 use Rattle.trb.proofs.BlockLaws.{words_length}
 use Rattle.ring.specs.Ring.{is_slot, slot_of}
-use Rattle.ring.specs.declared.Slot.{Slot}
-use Rattle.ring.specs.declared.Slot.TheVariants as slot
 use Rattle.ring.proofs.RuleLaws.{store_length}
 use Rattle.finished.specs.Finished.{fill_place}
-use Rattle.records.specs.Records.{in_flight, stopped, cancelled_word, record_at}
+use Rattle.records.specs.Kinds.{kind_is, isoch}
+use Rattle.records.proofs.KindLaws.{eq_kind}
+use Rattle.records.specs.States.{state_is, in_flight, stopped}
+use Rattle.records.specs.Records.{cancelled_word, record_at}
+use Rattle.records.proofs.StateLaws.{state_true, eq_state, flying_not_stopped}
 use Rattle.records.specs.declared.Record.{Record}
 use Rattle.event.specs.Event.{event_of}
-use Rattle.dock.specs.declared.Changed.{Changed}
+use Rattle.dock.specs.declared.After.{After}
+use Rattle.dock.specs.declared.ResetCommands.{ResetCommands}
+use Rattle.dock.specs.declared.Stored.{Stored}
+use Rattle.dock.specs.declared.Refusal.{Refusal}
+use Rattle.dock.specs.declared.Reclaimed.{Reclaimed}
+use Rattle.dock.specs.declared.Refusal.{Refusal}
+use Rattle.dock.specs.Refusals.{done}
 use Rattle.dock.specs.declared.Endpoint.{Endpoint}
 use Rattle.dock.specs.declared.Identity.{Identity}
-use Rattle.dock.specs.declared.Outcome.{Outcome}
-use Rattle.dock.specs.declared.Outcome.TheVariants.{Done, Refused}
-use Rattle.dock.specs.declared.ReclaimedOne.{ReclaimedOne}
 use Rattle.dock.specs.declared.Request.{Request}
 use Rattle.dock.specs.declared.Shape.{Shape}
 use Rattle.dock.specs.declared.What.{What}
 use Rattle.dock.specs.declared.What.TheVariants.{Control, Bulk, Interrupt, Isoch}
-use Rattle.dock.specs.declared.ResetBegun.{ResetBegun}
-use Rattle.dock.specs.declared.StoredOne.{StoredOne}
-use Rattle.dock.specs.declared.Taken.{Taken}
 use Rattle.dock.specs.Limits.{limits_hold}
 use Rattle.dock.specs.State.{fresh, idle, with_store}
 use Rattle.dock.specs.RowOne.{place_fits, fits, fits_with, strays, Next, the_link, the_trb, the_first, none, next_of, is_none}
@@ -114,8 +113,8 @@ follows_sound s e ring finished h f r t = record {
 
 -- ---- making
 
-pub not_done : (n : ℕ) → Refused n ≡ Done → ⊥
-not_done n e = let z : ◌≡◌ {A = ℕ} 0 1 = cc in omega arith
+pub not_done : (why : Refusal) → Err why ≡ done → ⊥
+not_done why e = let z : ◌≡◌ {A = ℕ} 0 1 = cc in omega arith
 
 module _ (ring finished records packets : List ℕ) (shape : Shape) (who : Identity) where
   zeros_long : (l : List ℕ) (n : ℕ) → length l ≡ n → length (zeros l) ≡ n
@@ -153,12 +152,12 @@ module _ (ring finished records packets : List ℕ) (shape : Shape) (who : Ident
         underway = λ b. absurd (never_both b refl);
       }
 
-  make_sound : (make ring finished records packets shape who).0.answer ≡ Done
+  make_sound : (make ring finished records packets shape who).0.answer ≡ done
       → Sound (made_of (make ring finished records packets shape who))
   unfolding make
   make_sound =
       picked
-      (λ (t : Changed × List ℕ × List ℕ × List ℕ × List ℕ). t.0.answer ≡ Done → Sound (made_of t))
+      (λ (t : After ⊤ × List ℕ × List ℕ × List ℕ × List ℕ). t.0.answer ≡ done → Sound (made_of t))
       (eqb (make_no (length ring) (length finished) (length records) (length packets) shape who) 0)
       _ _
       (λ t d. fresh_sound (eqb-true _ _ t))
@@ -172,15 +171,15 @@ made_sound s (making ring finished records packets shape who done) = make_sound 
 configure_sound : (s : State) (packet burst interval : ℕ) → Sound s → Sound (after s (configures packet burst interval))
 unfolding configure
 configure_sound s packet burst interval h =
-    picked (λ (c : Changed). Sound (state_of c.endpoint s.ring s.finished s.records s.packets)) (eqb (plain_no s.endpoint) 0) _ _
+    picked (λ (c : After ⊤). Sound (state_of c.endpoint s.ring s.finished s.records s.packets)) (eqb (plain_no s.endpoint) 0) _ _
     (λ t. follows_sound s _ s.ring s.finished h (record { shape = refl; who = refl; account = refl; work = λ b. (b, refl) }) refl refl)
     (λ t. h)
 
 begin_sound : (s : State) → Sound s → Sound (after s begins)
 unfolding begin_reset
 begin_sound s h =
-    picked (λ (c : ResetBegun). Sound (state_of c.endpoint s.ring s.finished s.records s.packets)) (eqb (begin_no s.endpoint s.records) 0) _ _
-    (λ t. picked (λ (c : ResetBegun). Sound (state_of c.endpoint s.ring s.finished s.records s.packets)) s.endpoint.flags.halted _ _
+    picked (λ (c : After (Option ResetCommands)). Sound (state_of c.endpoint s.ring s.finished s.records s.packets)) (eqb (begin_no s.endpoint s.records) 0) _ _
+    (λ t. picked (λ (c : After (Option ResetCommands)). Sound (state_of c.endpoint s.ring s.finished s.records s.packets)) s.endpoint.flags.halted _ _
     (λ u. follows_sound s _ s.ring s.finished h (record { shape = refl; who = refl; account = refl; work = λ b. (b, refl) }) refl refl)
     (λ u. h))
     (λ t. h)
@@ -188,15 +187,15 @@ begin_sound s h =
 end_sound : (s : State) (worked : Bool) → Sound s → Sound (after s (ends worked))
 unfolding end_reset
 end_sound s worked h =
-    picked (λ (c : Changed). Sound (state_of c.endpoint s.ring s.finished s.records s.packets)) (eqb (end_no s.endpoint) 0) _ _
+    picked (λ (c : After ⊤). Sound (state_of c.endpoint s.ring s.finished s.records s.packets)) (eqb (end_no s.endpoint) 0) _ _
     (λ t. follows_sound s _ s.ring s.finished h (record { shape = refl; who = refl; account = refl; work = λ b. (b, refl) }) refl refl)
     (λ t. h)
 
 -- ---- the start of a submission
 
-taken_free : (o : Occupancy) (f : Found) → is_full f ≡ false → Tells o f → LowestFree o (number_from f)
-taken_free o (place.At i) t a = a
-taken_free o place.Full t a = absurd (never_both refl t)
+taken_free : (o : Occupancy) (f : Option ℕ) → is_full f ≡ false → Tells o f → LowestFree o (number_from f)
+taken_free o (Some i) t a = a
+taken_free o None t a = absurd (never_both refl t)
 
 at_least_one_lem : (lengths : List ℕ) → length lengths ≤ packet_count → length (at_least_one lengths) ≤ packet_count
 at_least_one_lem [] h = omega arith
@@ -254,7 +253,7 @@ module _ (s : State) (request : Request) (lengths : List ℕ) (h : Sound s)
 start_sound : (s : State) (request : Request) (lengths : List ℕ) → Sound s → Sound (after s (starts request lengths))
 unfolding start
 start_sound s request lengths h =
-    picked (λ (a : Changed × List ℕ × List ℕ). Sound (state_of a.0.endpoint s.ring s.finished a.1 a.2))
+    picked (λ (a : After ⊤ × List ℕ × List ℕ). Sound (state_of a.0.endpoint s.ring s.finished a.1 a.2))
     (eqb (start_no s.endpoint s.records (length s.packets) request lengths) 0) _ _
     (λ t. started_sound s request lengths h (eqb-true _ _ t))
     (λ t. h)
@@ -339,7 +338,7 @@ module _ (s : State) (h : Sound s) where
       let e = s.endpoint in
       let v = record_at s.records e.work.number in
       let n = next_of e v in
-      picked (λ (a : StoredOne × List ℕ × List ℕ). Sound (state_of a.0.endpoint a.1 a.2 s.records s.packets)) (eqb refusal 0) _ _
+      picked (λ (a : After Stored × List ℕ × List ℕ). Sound (state_of a.0.endpoint a.1 a.2 s.records s.packets)) (eqb refusal 0) _ _
       (λ t.
       let p = (store_fits (eqb-true _ _ t)).0 in
       let b = store_busy (eqb-true _ _ t) in
@@ -363,7 +362,7 @@ by_is_slot base slots address t = ((both (both (by_leb base address) (by_eqb ((a
 pub slot_below : (base slots address : ℕ) → 0 < slots → slot_number (slot_of base slots address) < slots
 unfolding slot_of
 slot_below base slots address l =
-    picked (λ (x : Slot). slot_number x < slots) (is_slot base slots address) (slot.At ((address - base) / 16)) slot.Outside (by_is_slot base slots address) (λ t. l)
+    picked (λ (x : Option ℕ). slot_number x < slots) (is_slot base slots address) (Some ((address - base) / 16)) None (by_is_slot base slots address) (λ t. l)
 
 pub slots_some : (s : State) → Sound s → 3 ≤ s.endpoint.shape.slots
 slots_some s h = ((by_limits s.endpoint.shape s.endpoint.who).so h.limits).slots_least
@@ -372,7 +371,7 @@ hand_sound : (s : State) (event : Words) → Sound s → Sound (after s (hands e
 unfolding hand_over slot_for
 hand_sound s event h =
     let e = s.endpoint in
-    picked (λ (a : Taken × List ℕ). Sound (state_of s.endpoint s.ring a.1 s.records s.packets)) (eqb (hand_over_no e (length s.finished) event) 0) _ _
+    picked (λ (a : Result ℕ Refusal × List ℕ). Sound (state_of s.endpoint s.ring a.1 s.records s.packets)) (eqb (hand_over_no e (length s.finished) event) 0) _ _
     (λ t.
     let below = slot_below e.shape.base e.shape.slots (event_of event).address (omega (arith, slots_some s h)) in
     follows_sound s e s.ring _ h (follows_same e) refl (fill_long s.finished _ event (omega (arith, h.finished_long))))
@@ -380,9 +379,9 @@ hand_sound s event h =
 
 -- ---- a cancel
 
-pub marked_alike : (records : List ℕ) (f : Lookup) → Alike records (marked records f)
-marked_alike records lookup.Nothing = alike_same records
-marked_alike records (lookup.At r) = alike_set records r cancelled_word _ (omega arith) (λ e. omega arith) (λ e. omega arith) (λ e. omega arith) (λ e. omega arith)
+pub marked_alike : (records : List ℕ) (f : Option ℕ) → Alike records (marked records f)
+marked_alike records None = alike_same records
+marked_alike records (Some r) = alike_set records r cancelled_word _ (omega arith) (λ e. omega arith) (λ e. omega arith) (λ e. omega arith) (λ e. omega arith)
 
 -- Ids, states and counts as they were, and packets of the same length: the invariant holds on.
 pub alike_sound : (s : State) (records packets : List ℕ) → Sound s → Alike s.records records → length packets ≡ length s.packets
@@ -401,7 +400,7 @@ cancel_sound : (s : State) (id : ℕ) → Sound s → Sound (after s (cancels id
 unfolding cancel
 cancel_sound s id h =
     let e = s.endpoint in
-    picked (λ (a : Outcome × List ℕ). Sound (state_of e s.ring s.finished a.1 s.packets)) (eqb (cancel_no e s.records id) 0) _ _
+    picked (λ (a : Result ⊤ Refusal × List ℕ). Sound (state_of e s.ring s.finished a.1 s.packets)) (eqb (cancel_no e s.records id) 0) _ _
     (λ t. alike_sound s _ s.packets h (marked_alike s.records (find_in s.records e.account.occupancy id)) refl)
     (λ t. h)
 
@@ -413,7 +412,7 @@ retire_sound s h =
     let e = s.endpoint in
     let after = retired_below record_count e.account.occupancy e.account.outstanding s.records in
     let all = retiring e.account.occupancy e.account.outstanding s.records h.records_long record_count (omega arith) in
-    picked (λ (a : Changed × List ℕ). Sound (state_of a.0.endpoint s.ring s.finished a.1 s.packets)) (eqb (record_no e s.records) 0) _ _
+    picked (λ (a : After ⊤ × List ℕ). Sound (state_of a.0.endpoint s.ring s.finished a.1 s.packets)) (eqb (record_no e s.records) 0) _ _
     (λ t. record {
       limits = h.limits;
       ring_long = h.ring_long;
@@ -428,27 +427,27 @@ retire_sound s h =
 -- ---- a reclaim
 
 -- All is as it was, and the request is not over.
-pub record Untouched (s : State) (t : ReclaimedOne × List ℕ × List ℕ) : Type 0 where
+pub record Untouched (s : State) (t : After Reclaimed × List ℕ × List ℕ) : Type 0 where
   pub endpoint : t.0.endpoint ≡ s.endpoint
   pub records : t.1 ≡ s.records
   pub packets : t.2 ≡ s.packets
   pub unended : final t.0.answer ≡ false
 
 -- The id's record was looked at, in a call that is not refused.
-pub record Looked (s : State) (id : ℕ) (t : ReclaimedOne × List ℕ × List ℕ) : Type 0 where
+pub record Looked (s : State) (id : ℕ) (t : After Reclaimed × List ℕ × List ℕ) : Type 0 where
   pub number : ℕ
   pub lowest : Lowest record_count (held_by (held s.endpoint.account.occupancy) (id_at s.records) id) number
   pub allowed : reclaim_no s.endpoint (length s.finished) s.records (length s.packets) id ≡ 0
   pub touches : Touches s.endpoint s.records s.packets number (flight_part s.records s.endpoint.account.occupancy number) t
 
 -- The packets of a record that is not bad are at most 64, where it has any.
-pub few_packets : (e : Endpoint) (v : Record) → (eqb v.state in_flight && (leb e.shape.slots (v.place + 1) || (eqb v.kind isoch && ltb packet_count v.count))) ≡ false
+pub few_packets : (e : Endpoint) (v : Record) → (state_is v.state in_flight && (leb e.shape.slots (v.place + 1) || (kind_is v.kind isoch && ltb packet_count v.count))) ≡ false
     → v.state ≡ in_flight → v.kind ≡ isoch → v.count ≤ packet_count
 few_packets e v f state kind =
     ⊎_elim
     (λ (t : ltb packet_count v.count ≡ true).
     absurd (never_both
-    ((and-eq-true_iff _ _).1 (eq-eqb v.state in_flight state, or_right (leb e.shape.slots (v.place + 1)) _ ((and-eq-true_iff _ _).1 (eq-eqb v.kind isoch kind, t))))
+    ((and-eq-true_iff _ _).1 (eq_state v.state in_flight state, or_right (leb e.shape.slots (v.place + 1)) _ ((and-eq-true_iff _ _).1 (eq_kind v.kind isoch kind, t))))
     f))
     (λ (t : ltb packet_count v.count ≡ false). ltb-false packet_count v.count t)
     (true_or_false (ltb packet_count v.count))
@@ -465,12 +464,12 @@ reclaim_long e finished records packets id t =
     ((both (both (fits_with_parts e records) (by_eqb finished (ring_size e.shape.slots))) (by_eqb packets packets_size)).so row).0.0.0.1
 
 module _ (s : State) (id : ℕ) (allows : reclaim_no s.endpoint (length s.finished) s.records (length s.packets) id ≡ 0) where
-  abbrev Result : ReclaimedOne × List ℕ × List ℕ → Type 0
-  Result t = Untouched s t ⊎ Looked s id t
+  abbrev Reclaims : After Reclaimed × List ℕ × List ℕ → Type 0
+  Reclaims t = Untouched s t ⊎ Looked s id t
 
   at_record : (r : ℕ) → Lowest record_count (held_by (held s.endpoint.account.occupancy) (id_at s.records) id) r
-      → bad_record s.endpoint s.records (lookup.At r) ≡ false
-      → Result (reclaim_found (lookup.At r) s.endpoint s.finished s.records s.packets)
+      → bad_record s.endpoint s.records (Some r) ≡ false
+      → Reclaims (reclaim_found (Some r) s.endpoint s.finished s.records s.packets)
   at_record r low bad =
       let e = s.endpoint in
       let v = record_at s.records r in
@@ -478,18 +477,18 @@ module _ (s : State) (id : ℕ) (allows : reclaim_no s.endpoint (length s.finish
       let part = flight_part s.records e.account.occupancy r in
       let own = own_record_same r s.records in
       let same = own_packets_same r s.packets in
-      picked Result (eqb v.state stopped) _ _
+      picked Reclaims (state_is v.state stopped) _ _
       (λ t.
-      let gone : part ≡ 0 = part_none s.records e.account.occupancy r (λ f. omega (arith, f.1, eqb-true v.state stopped t)) in
+      let gone : part ≡ 0 = part_none s.records e.account.occupancy r (λ f. flying_not_stopped v.state f.1 (state_true v.state stopped t)) in
       inr (record {
         number = r;
         lowest = low;
         allowed = allows;
         touches = record { end = inr (record { halts = false; gone = ap (λ (n : ℕ). leave e r n false) (sym gone); over = refl }); own_record = own; own_packets = same };
       }))
-      (λ t. picked Result (eqb v.state in_flight) _ _
+      (λ t. picked Reclaims (state_is v.state in_flight) _ _
       (λ u.
-      let flying = eqb-true v.state in_flight u in
+      let flying = state_true v.state in_flight u in
       let whole : v.count ≡ part = sym (part_flies s.records e.account.occupancy r mine.0 flying) in
       inr (record {
         number = r;
@@ -501,10 +500,10 @@ module _ (s : State) (id : ℕ) (allows : reclaim_no s.endpoint (length s.finish
       }))
       (λ u. inl (record { endpoint = refl; records = refl; packets = refl; unended = refl })))
 
-  found : (f : Lookup) → Finds record_count (held_by (held s.endpoint.account.occupancy) (id_at s.records) id) f
-      → bad_record s.endpoint s.records f ≡ false → Result (reclaim_found f s.endpoint s.finished s.records s.packets)
-  found lookup.Nothing low bad = inl (record { endpoint = refl; records = refl; packets = refl; unended = refl })
-  found (lookup.At r) low bad = at_record r low bad
+  found : (f : Option ℕ) → Finds record_count (held_by (held s.endpoint.account.occupancy) (id_at s.records) id) f
+      → bad_record s.endpoint s.records f ≡ false → Reclaims (reclaim_found f s.endpoint s.finished s.records s.packets)
+  found None low bad = inl (record { endpoint = refl; records = refl; packets = refl; unended = refl })
+  found (Some r) low bad = at_record r low bad
 
 -- What a reclaim does, in every state.
 pub reclaim_result : (s : State) (id : ℕ)
@@ -513,7 +512,7 @@ unfolding reclaim reclaim_no reclaim_tests
 reclaim_result s id =
     let e = s.endpoint in
     let ts = reclaim_tests e (length s.finished) s.records (length s.packets) id in
-    picked (λ (t : ReclaimedOne × List ℕ × List ℕ). Untouched s t ⊎ Looked s id t)
+    picked (λ (t : After Reclaimed × List ℕ × List ℕ). Untouched s t ⊎ Looked s id t)
     (eqb (reclaim_no e (length s.finished) s.records (length s.packets) id) 0) _ _
     (λ t.
     found s id (eqb-true _ _ t) (find_in s.records e.account.occupancy id)

@@ -1,5 +1,6 @@
 -- What a completion reports: the order of its answers, when it halts the endpoint, lengths that never exceed what was asked for, and an ISO total
 -- that is the sum of its packets. Assumes nothing.
+use Rattle.std.specs.Prelude.{Option, Some, None, Ok, Result}
 use Prim.Native.Nat.{ℕ, zero, suc, ◌+◌, ◌-◌, ◌<◌, ◌≤◌}
 use mathlib.Core.Bool.{Bool, true, false, not, ◌&&◌, ◌||◌}
 use mathlib.Core.List.{List, [], ◌∷◌}
@@ -16,16 +17,15 @@ use Rattle.sizes.specs.Sizes.{record_count, records_size, packet_count}
 use Rattle.ids.proofs.AnyLaws.{true_or_false}
 use Rattle.trb.specs.declared.Words.{Words}
 use Rattle.finished.specs.Finished.{finished_at}
-use Rattle.finished.specs.declared.Finished.{Finished}
-use Rattle.finished.specs.declared.Finished.TheVariants as place
 use Rattle.packets.specs.Packets.{packet_at}
 use Rattle.records.specs.Records.{record_at}
 use Rattle.records.specs.declared.Record.{Record}
 use Rattle.dock.specs.declared.Completion.{Completion}
 use Rattle.dock.specs.declared.Endpoint.{Endpoint}
 use Rattle.dock.specs.declared.Reclaimed.{Reclaimed}
+use Rattle.dock.specs.declared.Refusal.{Refusal}
+use Rattle.dock.specs.declared.After.{After}
 use Rattle.dock.specs.declared.Reclaimed.TheVariants as answer
-use Rattle.dock.specs.declared.ReclaimedOne.{ReclaimedOne}
 use Rattle.dock.specs.Worth.{bytes, refused, worth, counts, accepted, moved_bytes}
 use Rattle.dock.specs.Reclaim.{leave, mismatched, complete_tests, completion, complete_answer, complete, code_of, remaining_of, bulk_by, reclaim_bulk, Seen, onward, ends, stage_by, status_by, recorded_length, recorded_by, status_place, data_seen, after_stage, reclaim_control, total, Swept, unfinished, fatal, found, sweep, swept_answer, reclaim_iso}
 use Rattle.dock.specs.Numbers.{Numbered, reclaimed_number}
@@ -47,20 +47,20 @@ and_false a false = or_false a
 -- ---- the order of the answers: "for a completion 7, 9, 8"
 
 module _ (e : Endpoint) (v : Record) (number code : ℕ) (fails : Bool) (size : ℕ) where
-  answers_cancelled : v.cancelled ≡ true → (complete e v number code fails size).answer ≡ answer.Cancelled
+  answers_cancelled : v.cancelled ≡ true → (complete e v number code fails size).answer ≡ Ok answer.Cancelled
   unfolding complete complete_tests
   answers_cancelled c = rw c
 
-  answers_mismatch : v.cancelled ≡ false → mismatched v ≡ true → (complete e v number code fails size).answer ≡ answer.Mismatch
+  answers_mismatch : v.cancelled ≡ false → mismatched v ≡ true → (complete e v number code fails size).answer ≡ Ok answer.Mismatch
   unfolding complete complete_tests mismatched
   answers_mismatch c m = rw (c, m)
 
-  answers_failed : v.cancelled ≡ false → mismatched v ≡ false → fails ≡ true → (complete e v number code fails size).answer ≡ answer.Failed code
+  answers_failed : v.cancelled ≡ false → mismatched v ≡ false → fails ≡ true → (complete e v number code fails size).answer ≡ Ok (answer.Failed code)
   unfolding complete complete_tests mismatched
   answers_failed c m f = rw (c, m, f)
 
   answers_done : v.cancelled ≡ false → mismatched v ≡ false → fails ≡ false
-      → (complete e v number code fails size).answer ≡ answer.Done (completion v number size)
+      → (complete e v number code fails size).answer ≡ Ok (answer.Done (completion v number size))
   unfolding complete complete_tests mismatched
   answers_done c m f = rw (c, m, f)
 
@@ -102,38 +102,38 @@ module _ (e : Endpoint) (v : Record) (number code : ℕ) (fails : Bool) (size : 
   others_keep other = rw (ne_eqb code 6 other) (and_false e.flags.halted (not v.cancelled))
 
 -- What is done is this request's completion: id, length, and "whether it is above 0 and direction in".
-done_is : (which : ℕ) (v : Record) (number code size : ℕ) (c : Completion) → complete_answer which v number code size ≡ answer.Done c → c ≡ completion v number size
+done_is : (which : ℕ) (v : Record) (number code size : ℕ) (c : Completion) → complete_answer which v number code size ≡ Ok (answer.Done c) → c ≡ completion v number size
 done_is which v number code size c =
-    picked (λ (x : Reclaimed). x ≡ answer.Done c → c ≡ completion v number size) (eqb which 7) _ _ (λ t d. absurd (let z : ◌≡◌ {A = ℕ} 0 1 = cc in omega arith))
-    (λ t. picked (λ (x : Reclaimed). x ≡ answer.Done c → c ≡ completion v number size) (eqb which 9) _ _ (λ u d. absurd (let z : ◌≡◌ {A = ℕ} 0 1 = cc in omega arith))
-    (λ u. picked (λ (x : Reclaimed). x ≡ answer.Done c → c ≡ completion v number size) (eqb which 8) _ _
+    picked (λ (x : Result Reclaimed Refusal). x ≡ Ok (answer.Done c) → c ≡ completion v number size) (eqb which 7) _ _ (λ t d. absurd (let z : ◌≡◌ {A = ℕ} 0 1 = cc in omega arith))
+    (λ t. picked (λ (x : Result Reclaimed Refusal). x ≡ Ok (answer.Done c) → c ≡ completion v number size) (eqb which 9) _ _ (λ u d. absurd (let z : ◌≡◌ {A = ℕ} 0 1 = cc in omega arith))
+    (λ u. picked (λ (x : Result Reclaimed Refusal). x ≡ Ok (answer.Done c) → c ≡ completion v number size) (eqb which 8) _ _
     (λ w d. absurd (let z : ◌≡◌ {A = ℕ} 0 1 = cc in omega arith)) (λ w d. cc)))
 
 module _ (e : Endpoint) (v : Record) (number : ℕ) where
-  pub done_reports : (code : ℕ) (fails : Bool) (size : ℕ) (c : Completion) → (complete e v number code fails size).answer ≡ answer.Done c → c ≡ completion v number size
+  pub done_reports : (code : ℕ) (fails : Bool) (size : ℕ) (c : Completion) → (complete e v number code fails size).answer ≡ Ok (answer.Done c) → c ≡ completion v number size
   unfolding complete
   done_reports code fails size c d = done_is (first (complete_tests v fails)) v number code size c d
 
   -- The length reported is the completion's size.
-  pub done_size : (code : ℕ) (fails : Bool) (size : ℕ) (c : Completion) → (complete e v number code fails size).answer ≡ answer.Done c → c.length ≡ size
+  pub done_size : (code : ℕ) (fails : Bool) (size : ℕ) (c : Completion) → (complete e v number code fails size).answer ≡ Ok (answer.Done c) → c.length ≡ size
   done_size code fails size c d = ap (λ (x : Completion). x.length) (done_reports code fails size c d)
 
-  pub never_done : (c : Completion) → answer.Nothing ≡ answer.Done c → ⊥
+  pub never_done : (c : Completion) → ◌≡◌ {A = Result Reclaimed Refusal} (Ok answer.Nothing) (Ok (answer.Done c)) → ⊥
   never_done c d = let z : ◌≡◌ {A = ℕ} 0 1 = cc in omega arith
 
   -- ---- bulk and interrupt
 
-  bulk_by_lem : (f : Finished) (c : Completion) → (bulk_by f e v number).answer ≡ answer.Done c → c.length ≤ v.length
-  bulk_by_lem place.Nothing c d = absurd (never_done c d)
-  bulk_by_lem (place.Event w) c d = omega (arith, done_size (code_of w) (not (accepted (code_of w))) (moved_bytes v.length (remaining_of w)) c d)
+  bulk_by_lem : (f : Option Words) (c : Completion) → (bulk_by f e v number).answer ≡ Ok (answer.Done c) → c.length ≤ v.length
+  bulk_by_lem None c d = absurd (never_done c d)
+  bulk_by_lem (Some w) c d = omega (arith, done_size (code_of w) (not (accepted (code_of w))) (moved_bytes v.length (remaining_of w)) c d)
 
   -- A length that is reported never exceeds the length asked for.
-  pub bulk_length : (finished : List ℕ) (c : Completion) → (reclaim_bulk e finished v number).answer ≡ answer.Done c → c.length ≤ v.length
+  pub bulk_length : (finished : List ℕ) (c : Completion) → (reclaim_bulk e finished v number).answer ≡ Ok (answer.Done c) → c.length ≤ v.length
   unfolding reclaim_bulk
   bulk_length finished c d = bulk_by_lem (finished_at finished v.place) c d
 
   -- A refused code is answered with 8 and that code.
-  pub bulk_refused : (finished : List ℕ) (w : Words) → finished_at finished v.place ≡ place.Event w → accepted (code_of w) ≡ false
+  pub bulk_refused : (finished : List ℕ) (w : Words) → finished_at finished v.place ≡ Some w → accepted (code_of w) ≡ false
       → v.cancelled ≡ false → mismatched v ≡ false → reclaimed_number (reclaim_bulk e finished v number).answer ≡ (8, code_of w ∷ [])
   unfolding reclaim_bulk
   bulk_refused finished w here refuses c m =
@@ -145,20 +145,20 @@ module _ (e : Endpoint) (v : Record) (number : ℕ) where
   recorded_length_lem : (recorded : ℕ) → recorded ≤ v.length + 1 → recorded_length v recorded ≤ v.length
   recorded_length_lem recorded r = picked (λ (n : ℕ). n ≤ v.length) (eqb recorded 0) v.length (recorded - 1) (λ t. omega arith) (λ t. omega arith)
 
-  status_by_lem : (f : Finished) (recorded : ℕ) → recorded ≤ v.length + 1 → (c : Completion) → (status_by f e v number recorded).answer ≡ answer.Done c → c.length ≤ v.length
-  status_by_lem place.Nothing recorded r c d = absurd (never_done c d)
-  status_by_lem (place.Event w) recorded r c d =
+  status_by_lem : (f : Option Words) (recorded : ℕ) → recorded ≤ v.length + 1 → (c : Completion) → (status_by f e v number recorded).answer ≡ Ok (answer.Done c) → c.length ≤ v.length
+  status_by_lem None recorded r c d = absurd (never_done c d)
+  status_by_lem (Some w) recorded r c d =
       omega (arith, recorded_length_lem recorded r, done_size (code_of w) (not (accepted (code_of w))) (recorded_length v recorded) c d)
 
-  stage_by_lem : (f : Finished) (more : ReclaimedOne) (c : Completion) → (more.answer ≡ answer.Done c → c.length ≤ v.length)
-      → (after_stage (stage_by f e v number) more).answer ≡ answer.Done c → c.length ≤ v.length
-  stage_by_lem place.Nothing more c m = m
-  stage_by_lem (place.Event w) more c m =
-      picked (λ (s : Seen). (after_stage s more).answer ≡ answer.Done c → c.length ≤ v.length) (accepted (code_of w)) onward (ends (complete e v number (code_of w) true 0))
+  stage_by_lem : (f : Option Words) (more : After Reclaimed) (c : Completion) → (more.answer ≡ Ok (answer.Done c) → c.length ≤ v.length)
+      → (after_stage (stage_by f e v number) more).answer ≡ Ok (answer.Done c) → c.length ≤ v.length
+  stage_by_lem None more c m = m
+  stage_by_lem (Some w) more c m =
+      picked (λ (s : Seen). (after_stage s more).answer ≡ Ok (answer.Done c) → c.length ≤ v.length) (accepted (code_of w)) onward (ends (complete e v number (code_of w) true 0))
       (λ t. m) (λ t d. omega (arith, done_size (code_of w) true 0 c d))
 
   pub control_length : (finished records : List ℕ) → Measured v → (c : Completion)
-      → (reclaim_control e finished records v number).0.answer ≡ answer.Done c → c.length ≤ v.length
+      → (reclaim_control e finished records v number).0.answer ≡ Ok (answer.Done c) → c.length ≤ v.length
   unfolding reclaim_control
   control_length finished records r c =
       let seen = data_seen e finished v in
@@ -181,7 +181,7 @@ total_is_sum (suc k) packets number = ap (λ (n : ℕ). n + (packet_at packets n
 
 module _ (e : Endpoint) (v : Record) (number : ℕ) where
   -- A completion whose code is refused is never done.
-  pub refused_not_done : (code size : ℕ) (c : Completion) → (complete e v number code true size).answer ≡ answer.Done c → ⊥
+  pub refused_not_done : (code size : ℕ) (c : Completion) → (complete e v number code true size).answer ≡ Ok (answer.Done c) → ⊥
   unfolding complete complete_tests
   refused_not_done code size c d =
       ⊎_elim
@@ -195,21 +195,21 @@ module _ (e : Endpoint) (v : Record) (number : ℕ) where
 
   -- Nor is one whose packets differ.
   pub differs_not_done : (code : ℕ) (fails : Bool) (size : ℕ) (c : Completion) → mismatched v ≡ true
-      → (complete e v number code fails size).answer ≡ answer.Done c → ⊥
+      → (complete e v number code fails size).answer ≡ Ok (answer.Done c) → ⊥
   differs_not_done code fails size c m d =
       ⊎_elim
       (λ (t : v.cancelled ≡ true). let was = answers_cancelled e v number code fails size t in let z : ◌≡◌ {A = ℕ} 0 1 = cc in omega arith)
       (λ (t : v.cancelled ≡ false). let was = answers_mismatch e v number code fails size t m in let z : ◌≡◌ {A = ℕ} 0 1 = cc in omega arith)
       (true_or_false v.cancelled)
 
-  swept_by_lem : (s : Swept) (packets : List ℕ) (c : Completion) → (swept_answer s e v number packets).answer ≡ answer.Done c
+  swept_by_lem : (s : Swept) (packets : List ℕ) (c : Completion) → (swept_answer s e v number packets).answer ≡ Ok (answer.Done c)
       → c.length ≡ sum v.count (λ (k : ℕ). (packet_at packets number k).actual)
   swept_by_lem unfinished packets c d = absurd (never_done e v number c d)
   swept_by_lem (fatal code) packets c d = absurd (refused_not_done code 0 c d)
   swept_by_lem (found code) packets c d = done_size e v number code false (total v.count packets number) c d ∙ total_is_sum v.count packets number
 
   -- The length that is reported is the sum of what the request's packets count, as the packet table then has them.
-  pub iso_length : (finished packets : List ℕ) (c : Completion) → (reclaim_iso e finished packets v number).0.answer ≡ answer.Done c
+  pub iso_length : (finished packets : List ℕ) (c : Completion) → (reclaim_iso e finished packets v number).0.answer ≡ Ok (answer.Done c)
       → c.length ≡ sum v.count (λ (k : ℕ). (packet_at (reclaim_iso e finished packets v number).1 number k).actual)
   unfolding reclaim_iso
   iso_length finished packets c d =

@@ -1,6 +1,7 @@
 -- The bytes that a reclaim tells of a request that is done, by its id: for bulk and interrupt the length asked for less what remains, for control what
 -- the data's event tells, in this reclaim or an earlier one, or the length asked for where no data event came; with an event that the standard lets a
 -- controller write for n bytes moved, exactly n. Assumes nothing.
+use Rattle.std.specs.Prelude.{Option, Some, None}
 use Prim.Native.Nat.{ℕ, ◌+◌, ◌-◌, ◌%◌, ◌^◌, ◌<◌, ◌≤◌}
 use mathlib.Core.Bool.{true, false, not, ◌&&◌}
 use mathlib.Core.List.{List, [], ◌∷◌}
@@ -15,22 +16,22 @@ use Rattle.base.specs.Fields.{flag}
 use Rattle.base.proofs.Chosen.{quiet}
 use Rattle.base.proofs.Decide.{both, by_eqb}
 use Rattle.mask.specs.Occupancy.{held}
-use Rattle.sizes.specs.Sizes.{ring_size, record_count, records_size, packets_size, control, bulk, interrupt, isoch}
+use Rattle.sizes.specs.Sizes.{ring_size, record_count, records_size, packets_size}
 use Rattle.ids.specs.Free.{id_at}
 use Rattle.ids.specs.Lookup.{find_in}
-use Rattle.ids.specs.declared.Lookup.{Lookup}
-use Rattle.ids.specs.declared.Lookup.TheVariants.{At}
 use Rattle.ids.proofs.LookupLaws.{find_finds}
 use Rattle.ids.proofs.AnyLaws.{by_held}
 use Rattle.trb.specs.declared.Words.{Words}
 use Rattle.finished.specs.Finished.{finished_at}
-use Rattle.finished.specs.declared.Finished.{Finished}
-use Rattle.finished.specs.declared.Finished.TheVariants as place
-use Rattle.records.specs.Records.{in_flight, recorded_word, word_at, record_at, set_word}
+use Rattle.records.specs.Kinds.{kind_in, control, bulk, interrupt, isoch}
+use Rattle.records.proofs.KindLaws.{eq_kind, ne_kind, kinds_apart}
+use Rattle.records.specs.States.{in_flight}
+use Rattle.records.specs.Records.{recorded_word, word_at, record_at, set_word}
 use Rattle.records.specs.declared.Record.{Record}
 use Rattle.records.proofs.RecordLaws.{id_is, word_set, word_kept}
 use Rattle.dock.specs.declared.Endpoint.{Endpoint}
-use Rattle.dock.specs.declared.ReclaimedOne.{ReclaimedOne}
+use Rattle.dock.specs.declared.After.{After}
+use Rattle.dock.specs.declared.Reclaimed.{Reclaimed}
 use Rattle.dock.specs.Numbers.{Numbered, reclaimed_number}
 use Rattle.dock.specs.RowOne.{fits_with}
 use Rattle.dock.specs.Worth.{accepted, moved_bytes}
@@ -49,28 +50,28 @@ done_with v id n = (0, id ∷ n ∷ flag (ltb 0 n && v.incoming) ∷ [])
 -- A reclaim that is not refused, of a request in flight that is not cancelled, whose record is r.
 pub record Due (e : Endpoint) (finished records packets : List ℕ) (id r : ℕ) : Type 0 where
   pub admitted : reclaim_no e (length finished) records (length packets) id ≡ 0
-  pub holder : find_in records e.account.occupancy id ≡ At r
+  pub holder : find_in records e.account.occupancy id ≡ Some r
   pub flying : (record_at records r).state ≡ in_flight
   pub wanted : (record_at records r).cancelled ≡ false
 
 -- What stands in the place of a stage lets the next stages be looked at: nothing, or an accepted event.
-abbrev pub Passes : Finished → Type 0
-Passes place.Nothing = Unit {0}
-Passes (place.Event w) = accepted (code_of w) ≡ true
+abbrev pub Passes : Option Words → Type 0
+Passes None = Unit {0}
+Passes (Some w) = accepted (code_of w) ≡ true
 
-passes_on : (f : Finished) (e : Endpoint) (v : Record) (number : ℕ) → Passes f → stage_by f e v number ≡ onward
-passes_on place.Nothing e v number p = refl
-passes_on (place.Event w) e v number p = rw p
+passes_on : (f : Option Words) (e : Endpoint) (v : Record) (number : ℕ) → Passes f → stage_by f e v number ≡ onward
+passes_on None e v number p = refl
+passes_on (Some w) e v number p = rw p
 
 -- What is recorded stands one above the length, and 0 is nothing.
-recorded_is : (v : Record) (n : ℕ) → v.recorded ≡ n + 1 → recorded_length v (recorded_by place.Nothing v) ≡ n
+recorded_is : (v : Record) (n : ℕ) → v.recorded ≡ n + 1 → recorded_length v (recorded_by None v) ≡ n
 recorded_is v n was =
-    let recorded : ℕ = recorded_by place.Nothing v in
+    let recorded : ℕ = recorded_by None v in
     picked (λ (x : ℕ). x ≡ n) (eqb recorded 0) _ _ (λ z. omega (arith, eqb-true recorded 0 z)) (λ z. omega arith)
 
-unheard_is : (v : Record) → v.recorded ≡ 0 → recorded_length v (recorded_by place.Nothing v) ≡ v.length
+unheard_is : (v : Record) → v.recorded ≡ 0 → recorded_length v (recorded_by None v) ≡ v.length
 unheard_is v was =
-    let recorded : ℕ = recorded_by place.Nothing v in
+    let recorded : ℕ = recorded_by None v in
     picked (λ (x : ℕ). x ≡ v.length) (eqb recorded 0) v.length (recorded - 1) (λ z. refl) (λ z. absurd (eqb-false recorded 0 z (omega arith)))
 
 recorded_less : (v : Record) (n : ℕ) → n ≤ v.length → v.length < 2 ^ 64 → recorded_length v ((n + 1) % 2 ^ 64) ≡ n
@@ -82,7 +83,7 @@ module _ (e : Endpoint) (finished records packets : List ℕ) (id r : ℕ) (h : 
   abbrev v : Record
   v = record_at records r
 
-  abbrev result : ReclaimedOne × List ℕ × List ℕ
+  abbrev result : After Reclaimed × List ℕ × List ℕ
   result = reclaim e finished records packets id
 
   -- ---- the call is that of its record's kind
@@ -90,7 +91,7 @@ module _ (e : Endpoint) (finished records packets : List ℕ) (id r : ℕ) (h : 
   flies_here : result ≡ reclaim_flying e finished records packets v r
   flies_here =
       reclaim_acts e finished records packets id h.admitted
-      ∙ ap (λ (f : Lookup). reclaim_found f e finished records packets) h.holder
+      ∙ ap (λ (f : Option ℕ). reclaim_found f e finished records packets) h.holder
       ∙ rw h.flying
 
   -- The record has the id.
@@ -116,18 +117,18 @@ module _ (e : Endpoint) (finished records packets : List ℕ) (id r : ℕ) (h : 
   module _ (kind : (v.kind ≡ bulk) ⊎ (v.kind ≡ interrupt)) where
     other : mismatched v ≡ false
     unfolding mismatched
-    other = rw (ne_eqb v.kind isoch (λ (q : v.kind ≡ isoch). ⊎_elim (λ (k : v.kind ≡ bulk). omega arith) (λ (k : v.kind ≡ interrupt). omega arith) kind))
+    other = rw (ne_kind v.kind isoch (λ (q : v.kind ≡ isoch). ⊎_elim (λ (k : v.kind ≡ bulk). kinds_apart v.kind bulk isoch refl k q) (λ (k : v.kind ≡ interrupt). kinds_apart v.kind interrupt isoch refl k q) kind))
 
     is_bulk : result ≡ (reclaim_bulk e finished v r, records, packets)
     unfolding reclaim_flying
     is_bulk = flies_here ∙ ⊎_elim (λ (k : v.kind ≡ bulk). rw k) (λ (k : v.kind ≡ interrupt). rw k) kind
 
-    module _ (w : Words) (here : finished_at finished v.place ≡ place.Event w) (a : accepted (code_of w) ≡ true) where
+    module _ (w : Words) (here : finished_at finished v.place ≡ Some w) (a : accepted (code_of w) ≡ true) where
       -- With an accepted event in its place it is done, with the length asked for less what remains,
       pub bulk_told : reclaimed_number result.0.answer ≡ done_with v id (v.length - remaining_of w)
       unfolding reclaim_bulk
       bulk_told =
-          ap (λ (x : ReclaimedOne × List ℕ × List ℕ). reclaimed_number x.0.answer) is_bulk
+          ap (λ (x : After Reclaimed × List ℕ × List ℕ). reclaimed_number x.0.answer) is_bulk
           ∙ rw here (done_here (code_of w) (moved_bytes v.length (remaining_of w)) a other)
 
       -- which is what was moved.
@@ -141,7 +142,7 @@ module _ (e : Endpoint) (finished records packets : List ℕ) (id r : ℕ) (h : 
     unfolding mismatched
     plain = rw kind
 
-    abbrev seen : Finished
+    abbrev seen : Option Words
     seen = data_seen e finished v
 
     abbrev recorded : ℕ
@@ -151,31 +152,31 @@ module _ (e : Endpoint) (finished records packets : List ℕ) (id r : ℕ) (h : 
     is_control : result
         ≡ (after_stage (stage_by seen e v r) (status_by (finished_at finished (status_place e v)) e v r recorded), set_word records r recorded_word recorded, packets)
     unfolding reclaim_flying reclaim_control
-    is_control = flies_here ∙ rw (eq-eqb v.kind control kind, passes_on (finished_at finished v.place) e v r setup)
+    is_control = flies_here ∙ rw (eq_kind v.kind control kind, passes_on (finished_at finished v.place) e v r setup)
 
     -- The record keeps its kind and length.
     pub kind_kept : ((record_at result.1 r).kind ≡ v.kind) × ((record_at result.1 r).length ≡ v.length)
     unfolding record_at
     kind_kept = (
-      ap (λ (x : ReclaimedOne × List ℕ × List ℕ). word_at x.1 r 1) is_control ∙ word_kept records r recorded_word recorded r 1 (λ q. omega arith),
-      ap (λ (x : ReclaimedOne × List ℕ × List ℕ). word_at x.1 r 6) is_control ∙ word_kept records r recorded_word recorded r 6 (λ q. omega arith),
+      ap (λ (x : After Reclaimed × List ℕ × List ℕ). kind_in (word_at x.1 r 1)) is_control ∙ ap kind_in (word_kept records r recorded_word recorded r 1 (λ q. omega arith)),
+      ap (λ (x : After Reclaimed × List ℕ × List ℕ). word_at x.1 r 6) is_control ∙ word_kept records r recorded_word recorded r 6 (λ q. omega arith),
     )
 
     -- An event in the data's place is looked at where the request has a length.
-    data_seen_lem : (d : Words) → 0 < v.length → finished_at finished (data_place e v) ≡ place.Event d → seen ≡ place.Event d
+    data_seen_lem : (d : Words) → 0 < v.length → finished_at finished (data_place e v) ≡ Some d → seen ≡ Some d
     data_seen_lem d some stands = rw (ne_eqb v.length 0 (λ (q : v.length ≡ 0). omega arith), stands)
 
     -- With an accepted status event it is done, with what is recorded:
-    module _ (w : Words) (here : finished_at finished (status_place e v) ≡ place.Event w) (a : accepted (code_of w) ≡ true) where
+    module _ (w : Words) (here : finished_at finished (status_place e v) ≡ Some w) (a : accepted (code_of w) ≡ true) where
       control_told : Passes seen → reclaimed_number result.0.answer ≡ done_with v id (recorded_length v recorded)
       control_told passes =
-          ap (λ (x : ReclaimedOne × List ℕ × List ℕ). reclaimed_number x.0.answer) is_control
+          ap (λ (x : After Reclaimed × List ℕ × List ℕ). reclaimed_number x.0.answer) is_control
           ∙ rw (passes_on seen e v r passes, here) (done_here (code_of w) (recorded_length v recorded) a plain)
 
       -- by an accepted data event the length asked for less what remains, which is what was moved;
-      module _ (d : Words) (some : 0 < v.length) (stands : finished_at finished (data_place e v) ≡ place.Event d) (b : accepted (code_of d) ≡ true)
+      module _ (d : Words) (some : 0 < v.length) (stands : finished_at finished (data_place e v) ≡ Some d) (b : accepted (code_of d) ≡ true)
           (fits : v.length < 2 ^ 64) where
-        event_told : (n : ℕ) → recorded_length v (recorded_by (place.Event d) v) ≡ n → reclaimed_number result.0.answer ≡ done_with v id n
+        event_told : (n : ℕ) → recorded_length v (recorded_by (Some d) v) ≡ n → reclaimed_number result.0.answer ≡ done_with v id n
         event_told n is = control_told (rw (data_seen_lem d some stands) b) ∙ rw (data_seen_lem d some stands, is)
 
         pub data_told : reclaimed_number result.0.answer ≡ done_with v id (v.length - remaining_of d)
@@ -186,17 +187,17 @@ module _ (e : Endpoint) (finished records packets : List ℕ) (id r : ℕ) (h : 
         data_exact t n says is = event_told n (data_moved e v r d t says n is b fits)
 
       -- where no data event stands what an earlier reclaim recorded,
-      pub recorded_told : (n : ℕ) → seen ≡ place.Nothing → v.recorded ≡ n + 1 → reclaimed_number result.0.answer ≡ done_with v id n
+      pub recorded_told : (n : ℕ) → seen ≡ None → v.recorded ≡ n + 1 → reclaimed_number result.0.answer ≡ done_with v id n
       recorded_told n empty was =
-          control_told (rw empty tt) ∙ ap (done_with v id) (ap (λ (f : Finished). recorded_length v (recorded_by f v)) empty ∙ recorded_is v n was)
+          control_told (rw empty tt) ∙ ap (done_with v id) (ap (λ (f : Option Words). recorded_length v (recorded_by f v)) empty ∙ recorded_is v n was)
 
       -- and the length asked for where none did.
-      pub unheard_told : seen ≡ place.Nothing → v.recorded ≡ 0 → reclaimed_number result.0.answer ≡ done_with v id v.length
+      pub unheard_told : seen ≡ None → v.recorded ≡ 0 → reclaimed_number result.0.answer ≡ done_with v id v.length
       unheard_told empty was =
-          control_told (rw empty tt) ∙ ap (done_with v id) (ap (λ (f : Finished). recorded_length v (recorded_by f v)) empty ∙ unheard_is v was)
+          control_told (rw empty tt) ∙ ap (done_with v id) (ap (λ (f : Option Words). recorded_length v (recorded_by f v)) empty ∙ unheard_is v was)
 
     -- A reclaim that finds the data's event records it,
-    module _ (d : Words) (some : 0 < v.length) (stands : finished_at finished (data_place e v) ≡ place.Event d) (b : accepted (code_of d) ≡ true)
+    module _ (d : Words) (some : 0 < v.length) (stands : finished_at finished (data_place e v) ≡ Some d) (b : accepted (code_of d) ≡ true)
         (fits : v.length + 1 < 2 ^ 64) where
       within : r < record_count
       within = (rw h.holder at (find_finds record_count (held e.account.occupancy) (id_at records) id)).within
@@ -205,7 +206,7 @@ module _ (e : Endpoint) (finished records packets : List ℕ) (id r : ℕ) (h : 
       unfolding record_at
       data_recorded =
           let n : ℕ = v.length - remaining_of d + 1 in
-          ap (λ (x : ReclaimedOne × List ℕ × List ℕ). word_at x.1 r recorded_word) is_control
+          ap (λ (x : After Reclaimed × List ℕ × List ℕ). word_at x.1 r recorded_word) is_control
           ∙ rw (data_seen_lem d some stands)
           (word_set records r recorded_word (n % 2 ^ 64) (let l = within in omega (arith, records_long_lem)) ∙ mod-eq_of_lt (omega arith))
 
@@ -213,5 +214,5 @@ module _ (e : Endpoint) (finished records packets : List ℕ) (id r : ℕ) (h : 
       moved_recorded t n says is = data_recorded ∙ ap (λ (x : ℕ). x + 1) (moved_residual says b v.length (remaining_of d) n is)
 
       -- and while no status event stands answers 10.
-      pub data_waits : finished_at finished (status_place e v) ≡ place.Nothing → result.0 ≡ nothing e
-      data_waits empty = ap (λ (x : ReclaimedOne × List ℕ × List ℕ). x.0) is_control ∙ rw (data_seen_lem d some stands, b, empty)
+      pub data_waits : finished_at finished (status_place e v) ≡ None → result.0 ≡ nothing e
+      data_waits empty = ap (λ (x : After Reclaimed × List ℕ × List ℕ). x.0) is_control ∙ rw (data_seen_lem d some stands, b, empty)

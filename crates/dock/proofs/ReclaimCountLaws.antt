@@ -1,6 +1,7 @@
 -- The packets of an ISO request that is reclaimed, as laws of the whole call: one that is marked stays, one that is not counts what its event is
 -- worth, one without an event counts 0 and only where the last packet's event stands; a request that is done has every packet marked.
 -- Assumes nothing.
+use Rattle.std.specs.Prelude.{Option, Some, None, Ok}
 use Prim.Native.Nat.{ℕ, ◌+◌, ◌-◌, ◌%◌, ◌^◌, ◌≤◌, ◌<◌}
 use mathlib.Core.Bool.{Bool, true, false, false≢true}
 use mathlib.Core.List.{List}
@@ -16,24 +17,23 @@ use Rattle.base.proofs.Chosen.{quiet}
 use Rattle.base.proofs.Compare.{lt_or_le}
 use Rattle.base.proofs.Decide.{both, by_eqb}
 use Rattle.mask.specs.Occupancy.{held}
-use Rattle.sizes.specs.Sizes.{ring_size, record_count, packet_count, packets_size, isoch}
+use Rattle.sizes.specs.Sizes.{ring_size, record_count, packet_count, packets_size}
 use Rattle.ids.specs.Free.{id_at, held_by}
 use Rattle.ids.specs.Lookup.{Finds, find_in}
-use Rattle.ids.specs.declared.Lookup.{Lookup}
-use Rattle.ids.specs.declared.Lookup.TheVariants.{At}
 use Rattle.ids.proofs.LookupLaws.{find_finds}
 use Rattle.trb.specs.declared.Words.{Words}
 use Rattle.finished.specs.Finished.{finished_at}
-use Rattle.finished.specs.declared.Finished.{Finished}
-use Rattle.finished.specs.declared.Finished.TheVariants as place
 use Rattle.packets.specs.Packets.{packet_at}
-use Rattle.records.specs.Records.{in_flight, record_at}
+use Rattle.records.specs.Kinds.{isoch}
+use Rattle.records.specs.States.{in_flight}
+use Rattle.records.specs.Records.{record_at}
 use Rattle.packets.specs.declared.Packet.{Packet}
 use Rattle.records.specs.declared.Record.{Record}
 use Rattle.dock.specs.declared.Completion.{Completion}
 use Rattle.dock.specs.declared.Endpoint.{Endpoint}
+use Rattle.dock.specs.declared.After.{After}
+use Rattle.dock.specs.declared.Reclaimed.{Reclaimed}
 use Rattle.dock.specs.declared.Reclaimed.TheVariants as answer
-use Rattle.dock.specs.declared.ReclaimedOne.{ReclaimedOne}
 use Rattle.dock.specs.Worth.{Worth, bytes, refused, counts, worth}
 use Rattle.dock.specs.Residual.{Told, Tells, Writes, credit}
 use Rattle.dock.specs.Reclaim.{code_of, remaining_of, place_of, counted, Swept, unfinished, fatal, found, sweep, swept_answer, reclaim_iso, bad_record, reclaim_tests, reclaim_no, reclaim_flying, reclaim_found, reclaim}
@@ -47,7 +47,7 @@ use Rattle.dock.proofs.ReclaimSettleLaws.{credited, unmarked_by, settled, Refuse
 -- A reclaim that is not refused, of an ISO request in flight, whose record is r.
 pub record Walks (e : Endpoint) (finished records packets : List ℕ) (id r : ℕ) : Type 0 where
   pub admitted : reclaim_no e (length finished) records (length packets) id ≡ 0
-  pub holder : find_in records e.account.occupancy id ≡ At r
+  pub holder : find_in records e.account.occupancy id ≡ Some r
   pub flying : (record_at records r).state ≡ in_flight
   pub iso : (record_at records r).kind ≡ isoch
 
@@ -61,16 +61,16 @@ worth_most code requested remaining n small few =
     (λ z is. absurd (let q : ◌≡◌ {A = ℕ} 0 1 = cc in omega arith))))
 
 -- Where the last packet is found, a packet whose event is not refused ends up marked.
-settled_marked : (p : Packet) (f : Finished) → (Refuses p f → ⊥) → (settled true f p).marked ≡ true
+settled_marked : (p : Packet) (f : Option Words) → (Refuses p f → ⊥) → (settled true f p).marked ≡ true
 settled_marked p f grants = by_mark p.marked refl
   where
-    by_worth : (w : Words) → f ≡ place.Event w → p.marked ≡ false → (x : Worth) → worth (code_of w) p.requested (remaining_of w) ≡ x → (credited x p).marked ≡ true
+    by_worth : (w : Words) → f ≡ Some w → p.marked ≡ false → (x : Worth) → worth (code_of w) p.requested (remaining_of w) ≡ x → (credited x p).marked ≡ true
     by_worth w here clear refused is = absurd (grants (w, clear, here, is))
     by_worth w here clear (bytes n) is = refl
 
-    by_place : (g : Finished) → f ≡ g → p.marked ≡ false → (unmarked_by true g p).marked ≡ true
-    by_place place.Nothing here clear = refl
-    by_place (place.Event w) here clear = by_worth w here clear (worth (code_of w) p.requested (remaining_of w)) refl
+    by_place : (g : Option Words) → f ≡ g → p.marked ≡ false → (unmarked_by true g p).marked ≡ true
+    by_place None here clear = refl
+    by_place (Some w) here clear = by_worth w here clear (worth (code_of w) p.requested (remaining_of w)) refl
 
     by_mark : (b : Bool) → p.marked ≡ b → (pick b p (unmarked_by true f p)).marked ≡ true
     by_mark true m = m
@@ -80,7 +80,7 @@ module _ (e : Endpoint) (finished records packets : List ℕ) (id r : ℕ) (h : 
   abbrev v : Record
   v = record_at records r
 
-  abbrev result : ReclaimedOne × List ℕ × List ℕ
+  abbrev result : After Reclaimed × List ℕ × List ℕ
   result = reclaim e finished records packets id
 
   abbrev swept : Swept × List ℕ
@@ -90,7 +90,7 @@ module _ (e : Endpoint) (finished records packets : List ℕ) (id r : ℕ) (h : 
   abbrev before : ℕ → Packet
   before k = packet_at packets r k
 
-  abbrev stands : ℕ → Finished
+  abbrev stands : ℕ → Option Words
   stands k = finished_at finished (place_of e.shape.slots v.place k)
 
   abbrev after : ℕ → Packet
@@ -98,10 +98,10 @@ module _ (e : Endpoint) (finished records packets : List ℕ) (id r : ℕ) (h : 
 
   -- ---- the call is the walk
 
-  reclaims : result ≡ reclaim_found (At r) e finished records packets
-  reclaims = reclaim_acts e finished records packets id h.admitted ∙ ap (λ (f : Lookup). reclaim_found f e finished records packets) h.holder
+  reclaims : result ≡ reclaim_found (Some r) e finished records packets
+  reclaims = reclaim_acts e finished records packets id h.admitted ∙ ap (λ (f : Option ℕ). reclaim_found f e finished records packets) h.holder
 
-  walked : reclaim_found (At r) e finished records packets ≡ (swept_answer swept.0 e v r swept.1, records, swept.1)
+  walked : reclaim_found (Some r) e finished records packets ≡ (swept_answer swept.0 e v r swept.1, records, swept.1)
   unfolding reclaim_flying reclaim_iso
   walked = rw (h.flying, h.iso)
 
@@ -114,10 +114,10 @@ module _ (e : Endpoint) (finished records packets : List ℕ) (id r : ℕ) (h : 
       let row = not-false _ (quiet (reclaim_tests e (length finished) records (length packets) id) 0 refl h.admitted (omega arith)) in
       ((both (both (fits_with_parts e records) (by_eqb (length finished) (ring_size e.shape.slots))) (by_eqb (length packets) packets_size)).so row).1
 
-  not_bad : bad_record e records (At r) ≡ false
+  not_bad : bad_record e records (Some r) ≡ false
   unfolding reclaim_no reclaim_tests
   not_bad =
-      subst (λ (f : Lookup). bad_record e records f ≡ false) h.holder
+      subst (λ (f : Option ℕ). bad_record e records f ≡ false) h.holder
       (quiet (reclaim_tests e (length finished) records (length packets) id) 1 refl h.admitted (omega arith))
 
   pub few : v.count ≤ packet_count
@@ -125,7 +125,7 @@ module _ (e : Endpoint) (finished records packets : List ℕ) (id r : ℕ) (h : 
 
   within : r < record_count
   within =
-      (subst (λ (f : Lookup). Finds record_count (held_by (held e.account.occupancy) (id_at records) id) f) h.holder
+      (subst (λ (f : Option ℕ). Finds record_count (held_by (held e.account.occupancy) (id_at records) id) f) h.holder
       (find_finds record_count (held e.account.occupancy) (id_at records) id)).within
 
   -- What the walk leaves of every packet, and why it ended.
@@ -133,7 +133,7 @@ module _ (e : Endpoint) (finished records packets : List ℕ) (id r : ℕ) (h : 
   reclaim_settles = sweep_settles r within e.shape.slots finished v few packets (let l = packets_long_lem in omega arith)
 
   is_after : (k : ℕ) → packet_at swept.1 r k ≡ after k
-  is_after k = ap (λ (x : ReclaimedOne × List ℕ × List ℕ). packet_at x.2 r k) (sym reclaim_walks)
+  is_after k = ap (λ (x : After Reclaimed × List ℕ × List ℕ). packet_at x.2 r k) (sym reclaim_walks)
 
   -- ---- each packet
 
@@ -160,7 +160,7 @@ module _ (e : Endpoint) (finished records packets : List ℕ) (id r : ℕ) (h : 
 
   -- The last packet is not marked, and its event stands in its place.
   abbrev pub LastStands : Type 0
-  LastStands = (w : Words) × (k : ℕ) × (k + 1 ≡ v.count) × ((before k).marked ≡ false) × (stands k ≡ place.Event w)
+  LastStands = (w : Words) × (k : ℕ) × (k + 1 ≡ v.count) × ((before k).marked ≡ false) × (stands k ≡ Some w)
 
   found_last : (upto : ℕ) (s : Swept) → Ending before stands v.count upto s → is_found s ≡ true → (upto ≡ v.count) × LastStands
   found_last upto s (ran all last) f = absurd (false≢true f)
@@ -169,7 +169,7 @@ module _ (e : Endpoint) (finished records packets : List ℕ) (id r : ℕ) (h : 
 
   module _ (k : ℕ) (low : k < v.count) (clear : (before k).marked ≡ false) where
     -- A packet counts what its event is worth, of which its word keeps 31 bits, where no event before it is refused.
-    pub packet_counted : (w : Words) (n : ℕ) → stands k ≡ place.Event w → worth (code_of w) (before k).requested (remaining_of w) ≡ bytes n
+    pub packet_counted : (w : Words) (n : ℕ) → stands k ≡ Some w → worth (code_of w) (before k).requested (remaining_of w) ≡ bytes n
         → ((j : ℕ) → j < k → Refuses (before j) (stands j) → ⊥) → after k ≡ counted (before k) (n % 2 ^ 31)
     packet_counted w n here is none =
         passes k (reached_by reclaim_settles.upto swept.0 k reclaim_settles.ending low not_refused) ∙ rw (clear, here, is)
@@ -185,14 +185,14 @@ module _ (e : Endpoint) (finished records packets : List ℕ) (id r : ℕ) (h : 
             (lt_or_le j k)
 
     -- All of them where the packet asks for less than 2^31 bytes,
-    pub packet_exact : (w : Words) (n : ℕ) → (before k).requested < 2 ^ 31 → stands k ≡ place.Event w → worth (code_of w) (before k).requested (remaining_of w) ≡ bytes n
+    pub packet_exact : (w : Words) (n : ℕ) → (before k).requested < 2 ^ 31 → stands k ≡ Some w → worth (code_of w) (before k).requested (remaining_of w) ≡ bytes n
         → ((j : ℕ) → j < k → Refuses (before j) (stands j) → ⊥) → after k ≡ counted (before k) n
     packet_exact w n small here is none =
         packet_counted w n here is none
         ∙ ap (counted (before k)) (mod-eq_of_lt (worth_most (code_of w) (before k).requested (remaining_of w) n small (omega arith) is))
 
     -- and where the event is one that the standard lets a controller write for n bytes moved, those.
-    pub packet_moved : (w : Words) (t : Told) (n : ℕ) → (before k).requested < 2 ^ 31 → stands k ≡ place.Event w → Tells (code_of w) t → Writes t (before k).requested (remaining_of w) n
+    pub packet_moved : (w : Words) (t : Told) (n : ℕ) → (before k).requested < 2 ^ 31 → stands k ≡ Some w → Tells (code_of w) t → Writes t (before k).requested (remaining_of w) n
         → ((j : ℕ) → j < k → Refuses (before j) (stands j) → ⊥) → after k ≡ counted (before k) (credit t n)
     packet_moved w t n small here says is none = packet_exact w (credit t n) small here (worth_residual says (before k).requested (remaining_of w) n is) none
 
@@ -205,7 +205,7 @@ module _ (e : Endpoint) (finished records packets : List ℕ) (id r : ℕ) (h : 
         (lt_or_le j reclaim_settles.upto)
 
     -- A packet without an event stays, or counts 0, and this only where the last packet's event stands.
-    pub late_packet : stands k ≡ place.Nothing → (after k ≡ before k) ⊎ ((after k ≡ counted (before k) 0) × LastStands)
+    pub late_packet : stands k ≡ None → (after k ≡ before k) ⊎ ((after k ≡ counted (before k) 0) × LastStands)
     late_packet none =
         ⊎_elim
         (λ (l : k < reclaim_settles.upto). by_found (is_found swept.0) refl (passes k l))
@@ -220,14 +220,14 @@ module _ (e : Endpoint) (finished records packets : List ℕ) (id r : ℕ) (h : 
   -- ---- the request
 
   -- Where an ISO request is done, its last packet was found,
-  done_found : (s : Swept) (l : List ℕ) (c : Completion) → (swept_answer s e v r l).answer ≡ answer.Done c → is_found s ≡ true
+  done_found : (s : Swept) (l : List ℕ) (c : Completion) → (swept_answer s e v r l).answer ≡ Ok (answer.Done c) → is_found s ≡ true
   done_found unfinished l c d = absurd (never_done e v r c d)
   done_found (fatal code) l c d = absurd (refused_not_done e v r code 0 c d)
   done_found (found code) l c d = refl
 
-  module _ (c : Completion) (done : result.0.answer ≡ answer.Done c) where
+  module _ (c : Completion) (done : result.0.answer ≡ Ok (answer.Done c)) where
     last_found : is_found swept.0 ≡ true
-    last_found = done_found swept.0 swept.1 c (sym (ap (λ (x : ReclaimedOne × List ℕ × List ℕ). x.0.answer) reclaim_walks) ∙ done)
+    last_found = done_found swept.0 swept.1 c (sym (ap (λ (x : After Reclaimed × List ℕ × List ℕ). x.0.answer) reclaim_walks) ∙ done)
 
     at_end : (reclaim_settles.upto ≡ v.count) × LastStands
     at_end = found_last reclaim_settles.upto swept.0 reclaim_settles.ending last_found

@@ -1,5 +1,6 @@
 -- In every state that is reached from making: a packet that is reclaimed counts exactly what its event is worth, which is what the standard lets that
 -- event count for; an ISO request that is done has every packet marked; and an event for any other slot changes nothing of a reclaim. Assumes nothing.
+use Rattle.std.specs.Prelude.{Option, Some, Ok, Result}
 use Prim.Native.Nat.{ℕ, ◌+◌, ◌*◌, ◌^◌, ◌≤◌, ◌<◌}
 use mathlib.Core.Bool.{true, false}
 use mathlib.Core.List.{List}
@@ -7,22 +8,21 @@ use mathlib.Core.Path.{◌≡◌, refl, ◌∙◌}
 use native.Mathlib.Omega.{arith}
 use lib.Dec.{eqb}
 use lib.ListN.{length, get_or}
-use Rattle.sizes.specs.Sizes.{record_count, isoch}
+use Rattle.sizes.specs.Sizes.{record_count}
 use Rattle.ids.specs.Lookup.{find_in}
-use Rattle.ids.specs.declared.Lookup.TheVariants.{At}
 use Rattle.event.specs.Event.{event_of}
 use Rattle.trb.specs.declared.Words.{Words}
 use Rattle.finished.specs.Finished.{finished_at, fill_place}
-use Rattle.finished.specs.declared.Finished.{Finished}
-use Rattle.finished.specs.declared.Finished.TheVariants as place
 use Rattle.packets.specs.Packets.{packet_at}
-use Rattle.records.specs.Records.{in_flight, record_at}
+use Rattle.records.specs.Kinds.{isoch}
+use Rattle.records.specs.States.{in_flight}
+use Rattle.records.specs.Records.{record_at}
 use Rattle.packets.specs.declared.Packet.{Packet}
 use Rattle.records.specs.declared.Record.{Record}
 use Rattle.finished.proofs.FinishedLaws.{others_kept}
 use Rattle.dock.specs.declared.Completion.{Completion}
+use Rattle.dock.specs.declared.Refusal.{Refusal}
 use Rattle.dock.specs.declared.Reclaimed.TheVariants as answer
-use Rattle.dock.specs.declared.Taken.{Taken}
 use Rattle.dock.specs.Worth.{bytes, worth}
 use Rattle.dock.specs.Residual.{Told, Tells, Writes, credit}
 use Rattle.dock.specs.HandOver.{slot_number, slot_for, hand_over_no, hand_over}
@@ -52,13 +52,13 @@ module _ {s : State} (h : Reached s) (idle : s.endpoint.work.busy ≡ false) (id
   abbrev after : ℕ → Packet
   after k = packet_at (run.after s (reclaims id)).packets r k
 
-  abbrev stands : ℕ → Finished
+  abbrev stands : ℕ → Option Words
   stands k = finished_at s.finished (place_of s.endpoint.shape.slots v.place k)
 
   walks : Walks s.endpoint s.finished s.records s.packets id r
   walks = record { admitted = reclaim_number h id ∙ rw idle; holder = held_found s (reached_sound h) id r l has; flying = flying; iso = iso }
 
-  module _ (k : ℕ) (low : k < v.count) (clear : (before k).marked ≡ false) (w : Words) (here : stands k ≡ place.Event w)
+  module _ (k : ℕ) (low : k < v.count) (clear : (before k).marked ≡ false) (w : Words) (here : stands k ≡ Some w)
       (none : (j : ℕ) → j < k → Refuses (before j) (stands j) → ⊥) where
     small : (before k).requested < 2 ^ 31
     small = let n = few s.endpoint s.finished s.records s.packets id r walks in let m = reached_modest h r k l (omega arith) in omega arith
@@ -72,7 +72,7 @@ module _ {s : State} (h : Reached s) (idle : s.endpoint.work.busy ≡ false) (id
     reached_moved t n says is = packet_moved s.endpoint s.finished s.records s.packets id r walks k low clear w t n small here says is none
 
   -- A request that is done has every packet marked.
-  pub reached_done_marked : (c : Completion) → (reclaim s.endpoint s.finished s.records s.packets id).0.answer ≡ answer.Done c
+  pub reached_done_marked : (c : Completion) → (reclaim s.endpoint s.finished s.records s.packets id).0.answer ≡ Ok (answer.Done c)
       → (k : ℕ) → k < v.count → (after k).marked ≡ true
   reached_done_marked = done_marked s.endpoint s.finished s.records s.packets id r walks
 
@@ -86,14 +86,14 @@ other_places finished slot event within p d =
 
 -- An event that is handed over for a slot whose event the reclaim does not need changes nothing of it.
 pub event_elsewhere : {s : State} → Reached s → (event : Words) (id : ℕ)
-    → ((r p : ℕ) → find_in s.records s.endpoint.account.occupancy id ≡ At r → Needed s.endpoint s.packets (record_at s.records r) r p
+    → ((r p : ℕ) → find_in s.records s.endpoint.account.occupancy id ≡ Some r → Needed s.endpoint s.packets (record_at s.records r) r p
     → p ≡ slot_number (slot_for s.endpoint event) → ⊥)
     → reclaim s.endpoint (run.after s (hands event)).finished s.records s.packets id ≡ reclaim s.endpoint s.finished s.records s.packets id
 unfolding hand_over slot_for
 event_elsewhere {s} h event id apart =
     let e = s.endpoint in
     let sound = reached_sound h in
-    picked (λ (a : Taken × List ℕ). reclaim e a.1 s.records s.packets id ≡ reclaim e s.finished s.records s.packets id)
+    picked (λ (a : Result ℕ Refusal × List ℕ). reclaim e a.1 s.records s.packets id ≡ reclaim e s.finished s.records s.packets id)
     (eqb (hand_over_no e (length s.finished) event) 0) _ _
     (λ t.
     let slot = slot_number (slot_for e event) in

@@ -1,5 +1,7 @@
 -- What a reclaim may change: its endpoint stays or lets the record go, ids, states and counts stay, and no record or packet but those of its own
 -- request changes. Assumes nothing.
+use Rattle.std.specs.Prelude.{Option, Some, None, Result}
+use Rattle.trb.specs.declared.Words.{Words}
 use Prim.Native.Nat.{ℕ, zero, suc, ◌+◌, ◌*◌, ◌<◌, ◌≤◌}
 use mathlib.Core.Bool.{Bool, true, false, ◌||◌}
 use mathlib.Core.List.{List}
@@ -12,10 +14,10 @@ use lib.Seq.{get_or-set_same, get_or-set_other}
 use lib.ListN.{length, length-set}
 use Rattle.base.specs.First.{first}
 use Rattle.base.proofs.Compare.{same_or_not}
-use Rattle.sizes.specs.Sizes.{record_count, record_words, records_size, packet_count, control, bulk, interrupt, isoch}
+use Rattle.sizes.specs.Sizes.{record_count, record_words, records_size, packet_count}
 use Rattle.finished.specs.Finished.{finished_at}
-use Rattle.finished.specs.declared.Finished.{Finished}
-use Rattle.finished.specs.declared.Finished.TheVariants as place
+use Rattle.records.specs.Kinds.{kind_is, control, bulk, interrupt, isoch}
+use Rattle.records.proofs.KindLaws.{kind_true}
 use Rattle.records.specs.Records.{recorded_word, word_at, record_at, set_word}
 use Rattle.records.specs.declared.Record.{Record}
 use Rattle.packets.specs.Packets.{packet_at, put_packet}
@@ -23,8 +25,9 @@ use Rattle.packets.specs.declared.Packet.{Packet}
 use Rattle.packets.proofs.PacketLaws.{packet_other}
 use Rattle.records.proofs.RecordLaws.{word_kept}
 use Rattle.dock.specs.declared.Endpoint.{Endpoint}
+use Rattle.dock.specs.declared.After.{After}
 use Rattle.dock.specs.declared.Reclaimed.{Reclaimed}
-use Rattle.dock.specs.declared.ReclaimedOne.{ReclaimedOne}
+use Rattle.dock.specs.declared.Refusal.{Refusal}
 use Rattle.dock.specs.Worth.{Worth, bytes, refused, worth, accepted}
 use Rattle.dock.specs.Reclaim.{leave, final, complete_tests, complete_answer, complete, nothing, code_of, remaining_of, bulk_by, reclaim_bulk, Seen, onward, ends, stage_by, status_by, recorded_by, status_place, data_seen, after_stage, records_after, reclaim_control, counted, close_below, Swept, unfinished, fatal, found, swept_by, swept_at, sweep, swept_answer, reclaim_iso, reclaim_flying, place_of}
 use Rattle.dock.proofs.ReachedBookLaws.{Alike, alike_same, alike_set}
@@ -33,20 +36,20 @@ use Rattle.dock.proofs.RetireLaws.{picked}
 -- ---- the answer and the endpoint
 
 -- The record has left: it is freed and its count taken off.
-pub record Left (e : Endpoint) (number count : ℕ) (x : ReclaimedOne) : Type 0 where
+pub record Left (e : Endpoint) (number count : ℕ) (x : After Reclaimed) : Type 0 where
   pub halts : Bool
   pub gone : x.endpoint ≡ leave e number count halts
   pub over : final x.answer ≡ true
 
 -- Nothing has happened, or the record has left.
-abbrev pub Ends : Endpoint → ℕ → ℕ → ReclaimedOne → Type 0
+abbrev pub Ends : Endpoint → ℕ → ℕ → After Reclaimed → Type 0
 Ends e number count x = (x ≡ nothing e) ⊎ Left e number count x
 
 pub over_answer : (which : ℕ) (v : Record) (number code size : ℕ) → final (complete_answer which v number code size) ≡ true
 over_answer which v number code size =
-    picked (λ (x : Reclaimed). final x ≡ true) (eqb which 7) _ _ (λ t. refl)
-    (λ t. picked (λ (x : Reclaimed). final x ≡ true) (eqb which 9) _ _ (λ s. refl)
-    (λ s. picked (λ (x : Reclaimed). final x ≡ true) (eqb which 8) _ _ (λ u. refl) (λ u. refl)))
+    picked (λ (x : Result Reclaimed Refusal). final x ≡ true) (eqb which 7) _ _ (λ t. refl)
+    (λ t. picked (λ (x : Result Reclaimed Refusal). final x ≡ true) (eqb which 9) _ _ (λ s. refl)
+    (λ s. picked (λ (x : Result Reclaimed Refusal). final x ≡ true) (eqb which 8) _ _ (λ u. refl) (λ u. refl)))
 
 module _ (e : Endpoint) (v : Record) (number : ℕ) where
   -- A completion ends the request.
@@ -58,21 +61,21 @@ module _ (e : Endpoint) (v : Record) (number : ℕ) where
     over = over_answer (first (complete_tests v fails)) v number code size;
   }
 
-  bulk_by_lem : (f : Finished) → Ends e number v.count (bulk_by f e v number)
-  bulk_by_lem place.Nothing = inl refl
-  bulk_by_lem (place.Event w) = inr (completes _ _ _)
+  bulk_by_lem : (f : Option Words) → Ends e number v.count (bulk_by f e v number)
+  bulk_by_lem None = inl refl
+  bulk_by_lem (Some w) = inr (completes _ _ _)
 
   pub bulk_ends : (finished : List ℕ) → Ends e number v.count (reclaim_bulk e finished v number)
   unfolding reclaim_bulk
   bulk_ends finished = bulk_by_lem (finished_at finished v.place)
 
-  status_by_lem : (f : Finished) (recorded : ℕ) → Ends e number v.count (status_by f e v number recorded)
-  status_by_lem place.Nothing recorded = inl refl
-  status_by_lem (place.Event w) recorded = inr (completes _ _ _)
+  status_by_lem : (f : Option Words) (recorded : ℕ) → Ends e number v.count (status_by f e v number recorded)
+  status_by_lem None recorded = inl refl
+  status_by_lem (Some w) recorded = inr (completes _ _ _)
 
-  stage_by_lem : (f : Finished) (more : ReclaimedOne) → Ends e number v.count more → Ends e number v.count (after_stage (stage_by f e v number) more)
-  stage_by_lem place.Nothing more m = m
-  stage_by_lem (place.Event w) more m =
+  stage_by_lem : (f : Option Words) (more : After Reclaimed) → Ends e number v.count more → Ends e number v.count (after_stage (stage_by f e v number) more)
+  stage_by_lem None more m = m
+  stage_by_lem (Some w) more m =
       picked (λ (s : Seen). Ends e number v.count (after_stage s more)) (accepted (code_of w)) onward (ends (complete e v number (code_of w) true 0))
       (λ t. m) (λ t. inr (completes _ _ _))
 
@@ -103,9 +106,9 @@ abbrev pub Measured : Record → Type 0
 Measured v = v.recorded ≤ v.length + 1
 
 -- So is what a look at the data event records.
-pub recorded_by_lem : (f : Finished) (v : Record) → Measured v → recorded_by f v ≤ v.length + 1
-recorded_by_lem place.Nothing v m = omega arith
-recorded_by_lem (place.Event w) v m = omega arith
+pub recorded_by_lem : (f : Option Words) (v : Record) → Measured v → recorded_by f v ≤ v.length + 1
+recorded_by_lem None v m = omega arith
+recorded_by_lem (Some w) v m = omega arith
 
 pub record OwnRecord (number : ℕ) (records after : List ℕ) : Type 0 where
   pub alike : Alike records after
@@ -202,9 +205,9 @@ module _ (slots : ℕ) (finished : List ℕ) (v : Record) (number : ℕ) where
           | false ↦ own_then number packets marked (more marked).1 put (onwards marked)
         ]
 
-    by_place : (f : Finished) → OwnPackets number packets (swept_at slots finished v number f k packets more).1
-    by_place place.Nothing = onwards packets
-    by_place (place.Event w) = by_worth (worth (code_of w) (packet_at packets number k).requested (remaining_of w)) (code_of w)
+    by_place : (f : Option Words) → OwnPackets number packets (swept_at slots finished v number f k packets more).1
+    by_place None = onwards packets
+    by_place (Some w) = by_worth (worth (code_of w) (packet_at packets number k).requested (remaining_of w)) (code_of w)
 
   sweep_own : (n k : ℕ) (packets : List ℕ) → n + k ≤ packet_count → OwnPackets number packets (sweep slots finished v number n k packets).1
   unfolding sweep
@@ -229,7 +232,7 @@ iso_own e finished packets v number few = sweep_own e.shape.slots finished v num
 
 -- ---- a record in flight, of any kind
 
-pub record Touches (e : Endpoint) (records packets : List ℕ) (number count : ℕ) (t : ReclaimedOne × List ℕ × List ℕ) : Type 0 where
+pub record Touches (e : Endpoint) (records packets : List ℕ) (number count : ℕ) (t : After Reclaimed × List ℕ × List ℕ) : Type 0 where
   pub end : Ends e number count t.0
   pub own_record : OwnRecord number records t.1
   pub own_packets : OwnPackets number packets t.2
@@ -243,10 +246,10 @@ flying_touches e finished records packets number within long few =
     let own = own_record_same number records in
     let none = own_packets_same number packets in
     let P = Touches e records packets number v.count in
-    picked P (eqb v.kind control) _ _
+    picked P (kind_is v.kind control) _ _
     (λ t. record { end = control_ends e v number finished records; own_record = control_own number records within long e finished; own_packets = none })
-    (λ t. picked P (eqb v.kind isoch) _ _
-    (λ s. record { end = iso_ends e v number finished packets; own_record = own; own_packets = iso_own e finished packets v number (few (eqb-true _ _ s)) })
-    (λ s. picked P (eqb v.kind bulk || eqb v.kind interrupt) _ _
+    (λ t. picked P (kind_is v.kind isoch) _ _
+    (λ s. record { end = iso_ends e v number finished packets; own_record = own; own_packets = iso_own e finished packets v number (few (kind_true v.kind isoch s)) })
+    (λ s. picked P (kind_is v.kind bulk || kind_is v.kind interrupt) _ _
     (λ u. record { end = bulk_ends e v number finished; own_record = own; own_packets = none })
     (λ u. record { end = inl refl; own_record = own; own_packets = none })))

@@ -1,5 +1,7 @@
 -- A reclaim that answers a refusal leaves everything; one that answers 10, nothing, leaves the endpoint; and whatever it answers, all of the records is
 -- as it was but for the recorded length of the record that has the id. It is lent the finished table to read only. Assumes nothing.
+use Rattle.std.specs.Prelude.{Option, Some, None, Ok, Err}
+use Rattle.trb.specs.declared.Words.{Words}
 use Prim.Native.Nat.{ℕ}
 use mathlib.Core.Bool.{Bool, true, false, ◌||◌, false≢true}
 use mathlib.Core.List.{List}
@@ -11,17 +13,17 @@ use lib.ListN.{length}
 use Rattle.base.specs.First.{pick, first}
 use Rattle.base.proofs.Compare.{same_or_not}
 use Rattle.ids.specs.Lookup.{find_in}
-use Rattle.ids.specs.declared.Lookup.{Lookup}
-use Rattle.ids.specs.declared.Lookup.TheVariants.{At, Nothing}
 use Rattle.finished.specs.Finished.{finished_at}
-use Rattle.finished.specs.declared.Finished.{Finished}
-use Rattle.finished.specs.declared.Finished.TheVariants as place
-use Rattle.sizes.specs.Sizes.{control, bulk, interrupt, isoch}
-use Rattle.records.specs.Records.{in_flight, stopped, recorded_word, record_at, set_word}
+use Rattle.records.specs.Kinds.{kind_is, control, bulk, interrupt, isoch}
+use Rattle.records.specs.States.{state_is, in_flight, stopped}
+use Rattle.records.specs.Records.{recorded_word, record_at, set_word}
 use Rattle.records.specs.declared.Record.{Record}
 use Rattle.dock.specs.declared.Endpoint.{Endpoint}
+use Rattle.dock.specs.declared.After.{After}
+use Rattle.dock.specs.declared.Reclaimed.{Reclaimed}
 use Rattle.dock.specs.declared.Reclaimed.TheVariants as answer
-use Rattle.dock.specs.declared.ReclaimedOne.{ReclaimedOne}
+use Rattle.dock.specs.declared.Refusal.{Refusal}
+use Rattle.dock.specs.Refusals.{refusal}
 use Rattle.dock.specs.Reclaim.{final, reclaim_stopped, complete_tests, complete, nothing, code_of, bulk_by, reclaim_bulk, Seen, onward, ends, stage_by, status_by, status_place, data_seen, recorded_by, after_stage, records_after, reclaim_control, Swept, unfinished, fatal, found, swept_answer, reclaim_iso, sweep, reclaim_no, reclaim_flying, reclaim_found, reclaim}
 use Rattle.dock.specs.Worth.{accepted}
 use Rattle.dock.proofs.ReclaimLaws.{over_answer}
@@ -30,18 +32,18 @@ use Rattle.dock.proofs.RefusalLaws.{reclaim_refuses, reclaim_acts}
 -- ---- an answer that ends the request, and one that does not
 
 -- Where the answer is nothing the endpoint is as it was, and it is no refusal.
-record Honest (e : Endpoint) (r : ReclaimedOne) : Type 0 where
-  nothing : r.answer ≡ answer.Nothing → r.endpoint ≡ e
-  admitted : (number : ℕ) → r.answer ≡ answer.Refused number → ⊥
+record Honest (e : Endpoint) (r : After Reclaimed) : Type 0 where
+  nothing : r.answer ≡ Ok answer.Nothing → r.endpoint ≡ e
+  admitted : (why : Refusal) → r.answer ≡ Err why → ⊥
 
-settled : (e : Endpoint) (r : ReclaimedOne) → final r.answer ≡ true → Honest e r
+settled : (e : Endpoint) (r : After Reclaimed) → final r.answer ≡ true → Honest e r
 settled e r s = record {
   nothing = λ q. absurd (false≢true (sym (ap final q) ∙ s));
-  admitted = λ number q. false≢true (sym (ap final q) ∙ s);
+  admitted = λ why q. false≢true (sym (ap final q) ∙ s);
 }
 
 stays : (e : Endpoint) → Honest e (nothing e)
-stays e = record { nothing = λ q. refl; admitted = λ number q. let z : ◌≡◌ {A = ℕ} 0 1 = cc in omega arith }
+stays e = record { nothing = λ q. refl; admitted = λ why q. let z : ◌≡◌ {A = ℕ} 0 1 = cc in omega arith }
 
 completes : (e : Endpoint) (v : Record) (number code : ℕ) (fails : Bool) (size : ℕ) → Honest e (complete e v number code fails size)
 unfolding complete
@@ -50,25 +52,25 @@ completes e v number code fails size =
 
 -- ---- by the kind of the request
 
-bulk_honest : (e : Endpoint) (f : Finished) (v : Record) (number : ℕ) → Honest e (bulk_by f e v number)
-bulk_honest e place.Nothing v number = stays e
-bulk_honest e (place.Event w) v number = completes e v number (code_of w) _ _
+bulk_honest : (e : Endpoint) (f : Option Words) (v : Record) (number : ℕ) → Honest e (bulk_by f e v number)
+bulk_honest e None v number = stays e
+bulk_honest e (Some w) v number = completes e v number (code_of w) _ _
 
-status_honest : (e : Endpoint) (f : Finished) (v : Record) (number recorded : ℕ) → Honest e (status_by f e v number recorded)
-status_honest e place.Nothing v number recorded = stays e
-status_honest e (place.Event w) v number recorded = completes e v number (code_of w) _ _
+status_honest : (e : Endpoint) (f : Option Words) (v : Record) (number recorded : ℕ) → Honest e (status_by f e v number recorded)
+status_honest e None v number recorded = stays e
+status_honest e (Some w) v number recorded = completes e v number (code_of w) _ _
 
 -- What a stage says, and what follows it.
 record Said (e : Endpoint) (s : Seen) : Type 0 where
-  then : (r : ReclaimedOne) → Honest e r → Honest e (after_stage s r)
+  then : (r : After Reclaimed) → Honest e r → Honest e (after_stage s r)
 
-judged : (e : Endpoint) (b : Bool) (r : ReclaimedOne) → Honest e r → Said e (pick b onward (ends r))
+judged : (e : Endpoint) (b : Bool) (r : After Reclaimed) → Honest e r → Said e (pick b onward (ends r))
 judged e true r h = record { then = λ x k. k }
 judged e false r h = record { then = λ x k. h }
 
-stage_said : (e : Endpoint) (f : Finished) (v : Record) (number : ℕ) → Said e (stage_by f e v number)
-stage_said e place.Nothing v number = record { then = λ x k. k }
-stage_said e (place.Event w) v number = judged e (accepted (code_of w)) (complete e v number (code_of w) true 0) (completes e v number (code_of w) true 0)
+stage_said : (e : Endpoint) (f : Option Words) (v : Record) (number : ℕ) → Said e (stage_by f e v number)
+stage_said e None v number = record { then = λ x k. k }
+stage_said e (Some w) v number = judged e (accepted (code_of w)) (complete e v number (code_of w) true 0) (completes e v number (code_of w) true 0)
 
 control_honest : (e : Endpoint) (finished records : List ℕ) (v : Record) (number : ℕ) → Honest e (reclaim_control e finished records v number).0
 unfolding reclaim_control
@@ -86,54 +88,54 @@ swept_honest e (found code) v number packets = completes e v number code false _
 -- ---- the records
 
 -- The table afterwards: as it was, but for the recorded word of the record that was found.
-abbrev pub RecordsAfter : Lookup → List ℕ → List ℕ → Type 0
-RecordsAfter Nothing before after = after ≡ before
-RecordsAfter (At r) before after = (after ≡ before) ⊎ ((value : ℕ) × (after ≡ set_word before r recorded_word value))
+abbrev pub RecordsAfter : Option ℕ → List ℕ → List ℕ → Type 0
+RecordsAfter None before after = after ≡ before
+RecordsAfter (Some r) before after = (after ≡ before) ⊎ ((value : ℕ) × (after ≡ set_word before r recorded_word value))
 
-unchanged : (l : Lookup) (records : List ℕ) → RecordsAfter l records records
-unchanged Nothing records = refl
-unchanged (At r) records = inl refl
+unchanged : (l : Option ℕ) (records : List ℕ) → RecordsAfter l records records
+unchanged None records = refl
+unchanged (Some r) records = inl refl
 
-seen_records : (s : Seen) (records : List ℕ) (r value : ℕ) → RecordsAfter (At r) records (records_after s records (set_word records r recorded_word value))
+seen_records : (s : Seen) (records : List ℕ) (r value : ℕ) → RecordsAfter (Some r) records (records_after s records (set_word records r recorded_word value))
 seen_records onward records r value = inr (value, refl)
 seen_records (ends x) records r value = inl refl
 
 -- ---- a record that is found
 
 -- Endpoint and records of a reclaim.
-record Fair (e : Endpoint) (l : Lookup) (records : List ℕ) (s : ReclaimedOne × List ℕ × List ℕ) : Type 0 where
+record Fair (e : Endpoint) (l : Option ℕ) (records : List ℕ) (s : After Reclaimed × List ℕ × List ℕ) : Type 0 where
   one : Honest e s.0
   table : RecordsAfter l records s.1
 
-chosen : (e : Endpoint) (l : Lookup) (records : List ℕ) (b : Bool) (x y : ReclaimedOne × List ℕ × List ℕ) → Fair e l records x → Fair e l records y
+chosen : (e : Endpoint) (l : Option ℕ) (records : List ℕ) (b : Bool) (x y : After Reclaimed × List ℕ × List ℕ) → Fair e l records x → Fair e l records y
     → Fair e l records (pick b x y)
 chosen e l records true x y p q = p
 chosen e l records false x y p q = q
 
 flying_fair : (e : Endpoint) (finished records packets : List ℕ) (v : Record) (r : ℕ)
-    → Fair e (At r) records (reclaim_flying e finished records packets v r)
+    → Fair e (Some r) records (reclaim_flying e finished records packets v r)
 unfolding reclaim_flying reclaim_control reclaim_iso reclaim_bulk
 flying_fair e finished records packets v r =
     let seen = data_seen e finished v in
     let swept = sweep e.shape.slots finished v r v.count 0 packets in
-    chosen e (At r) records (eqb v.kind control) _ _
+    chosen e (Some r) records (kind_is v.kind control) _ _
     (record {
       one = control_honest e finished records v r;
       table = seen_records (stage_by (finished_at finished v.place) e v r) records r (recorded_by seen v);
     })
-    (chosen e (At r) records (eqb v.kind isoch) _ _
+    (chosen e (Some r) records (kind_is v.kind isoch) _ _
     (record { one = swept_honest e swept.0 v r swept.1; table = inl refl })
-    (chosen e (At r) records (eqb v.kind bulk || eqb v.kind interrupt) _ _
+    (chosen e (Some r) records (kind_is v.kind bulk || kind_is v.kind interrupt) _ _
     (record { one = bulk_honest e (finished_at finished v.place) v r; table = inl refl })
     (record { one = stays e; table = inl refl })))
 
-found_fair : (e : Endpoint) (finished records packets : List ℕ) (l : Lookup) → Fair e l records (reclaim_found l e finished records packets)
-found_fair e finished records packets Nothing = record { one = stays e; table = refl }
-found_fair e finished records packets (At r) =
+found_fair : (e : Endpoint) (finished records packets : List ℕ) (l : Option ℕ) → Fair e l records (reclaim_found l e finished records packets)
+found_fair e finished records packets None = record { one = stays e; table = refl }
+found_fair e finished records packets (Some r) =
     let v = record_at records r in
-    chosen e (At r) records (eqb v.state stopped) _ _
+    chosen e (Some r) records (state_is v.state stopped) _ _
     (record { one = settled e (reclaim_stopped e v r) refl; table = inl refl })
-    (chosen e (At r) records (eqb v.state in_flight) _ _
+    (chosen e (Some r) records (state_is v.state in_flight) _ _
     (flying_fair e finished records packets v r)
     (record { one = stays e; table = inl refl }))
 
@@ -145,25 +147,25 @@ module _ (e : Endpoint) (finished records packets : List ℕ) (id : ℕ) where
 
   fair : number ≡ 0 → Fair e (find_in records e.account.occupancy id) records (reclaim e finished records packets id)
   fair passed =
-      subst (λ (x : ReclaimedOne × List ℕ × List ℕ). Fair e (find_in records e.account.occupancy id) records x)
+      subst (λ (x : After Reclaimed × List ℕ × List ℕ). Fair e (find_in records e.account.occupancy id) records x)
       (sym (reclaim_acts e finished records packets id passed))
       (found_fair e finished records packets (find_in records e.account.occupancy id))
 
   -- A reclaim whose number is 0 answers no refusal.
-  pub reclaim_admitted : number ≡ 0 → (n : ℕ) → (reclaim e finished records packets id).0.answer ≡ answer.Refused n → ⊥
+  pub reclaim_admitted : number ≡ 0 → (why : Refusal) → (reclaim e finished records packets id).0.answer ≡ Err why → ⊥
   reclaim_admitted passed = (fair passed).one.admitted
 
   -- A refusal has the call's number, and leaves everything.
-  pub reclaim_refused : (n : ℕ) → (reclaim e finished records packets id).0.answer ≡ answer.Refused n
-      → reclaim e finished records packets id ≡ (record { answer = answer.Refused number; endpoint = e }, records, packets)
-  reclaim_refused n q =
+  pub reclaim_refused : (why : Refusal) → (reclaim e finished records packets id).0.answer ≡ Err why
+      → reclaim e finished records packets id ≡ (record { answer = Err (refusal number); endpoint = e }, records, packets)
+  reclaim_refused why q =
       ⊎_elim
-      (λ (p : number ≡ 0). absurd (reclaim_admitted p n q))
+      (λ (p : number ≡ 0). absurd (reclaim_admitted p why q))
       (λ (p : number ≡ 0 → ⊥). reclaim_refuses e finished records packets id p)
       (same_or_not number 0)
 
   -- Nothing (10) leaves the endpoint.
-  pub reclaim_nothing : (reclaim e finished records packets id).0.answer ≡ answer.Nothing → (reclaim e finished records packets id).0.endpoint ≡ e
+  pub reclaim_nothing : (reclaim e finished records packets id).0.answer ≡ Ok answer.Nothing → (reclaim e finished records packets id).0.endpoint ≡ e
   reclaim_nothing q =
       ⊎_elim
       (λ (p : number ≡ 0). (fair p).one.nothing q)

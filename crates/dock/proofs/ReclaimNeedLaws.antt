@@ -1,34 +1,36 @@
 -- Which events a reclaim reads, and which it cannot do without. It reads none but those in the places of its own request's TRBs, and of those of marked
 -- packets none: whatever else the finished table holds, answer and effect are the same. A request in flight is over only where the event of its last
 -- TRB stands, or one with a refused code; and it is done only where the last one does. Assumes nothing.
+use Rattle.std.specs.Prelude.{Option, Some, None, Ok}
 use Prim.Native.Nat.{ℕ, zero, suc, ◌+◌, ◌≤◌, ◌<◌, min}
 use mathlib.Core.Bool.{Bool, true, false, ◌&&◌, ◌||◌, false≢true}
 use mathlib.Core.List.{List}
 use mathlib.Core.Path.{◌≡◌, refl, sym, ap, ◌∙◌, subst}
 use native.Mathlib.Nat.{mod-eq_of_lt}
 use native.Mathlib.Omega.{arith}
-use borrow.Author.Tests.{eqb-true, eqb-false, eq-eqb, leb-false}
+use borrow.Author.Tests.{eqb-true, eqb-false, leb-false}
 use lib.Dec.{eqb, leb, ltb}
 use lib.ListN.{length}
 use Rattle.base.specs.First.{pick}
 use Rattle.base.proofs.Chosen.{quiet}
 use Rattle.ids.specs.Lookup.{find_in}
-use Rattle.ids.specs.declared.Lookup.{Lookup}
-use Rattle.ids.specs.declared.Lookup.TheVariants.{At, Nothing}
 use Rattle.trb.specs.declared.Words.{Words}
 use Rattle.finished.specs.Finished.{finished_at}
-use Rattle.finished.specs.declared.Finished.{Finished}
-use Rattle.finished.specs.declared.Finished.TheVariants as place
-use Rattle.sizes.specs.Sizes.{packet_count, control, bulk, interrupt, isoch}
+use Rattle.sizes.specs.Sizes.{packet_count}
 use Rattle.packets.specs.Packets.{packet_at, put_packet}
-use Rattle.records.specs.Records.{in_flight, stopped, record_at}
+use Rattle.records.specs.Kinds.{kind_is, control, bulk, interrupt, isoch}
+use Rattle.records.proofs.KindLaws.{kind_true, kind_false, kinds_apart}
+use Rattle.records.specs.States.{state_is, in_flight, stopped}
+use Rattle.records.specs.Records.{record_at}
+use Rattle.records.proofs.StateLaws.{state_true, eq_state}
 use Rattle.packets.specs.declared.Packet.{Packet}
 use Rattle.records.specs.declared.Record.{Record}
 use Rattle.packets.proofs.PacketLaws.{packet_other}
 use Rattle.dock.specs.declared.Completion.{Completion}
 use Rattle.dock.specs.declared.Endpoint.{Endpoint}
+use Rattle.dock.specs.declared.After.{After}
+use Rattle.dock.specs.declared.Reclaimed.{Reclaimed}
 use Rattle.dock.specs.declared.Reclaimed.TheVariants as answer
-use Rattle.dock.specs.declared.ReclaimedOne.{ReclaimedOne}
 use Rattle.dock.specs.Trbs.{trb_count}
 use Rattle.dock.specs.Worth.{Worth, bytes, refused, worth, accepted}
 use Rattle.dock.specs.Reclaim.{final, complete, bulk_by, Seen, onward, ends, stage_by, status_by, recorded_by, after_stage, code_of, remaining_of, place_of, counted, close_below, Swept, found, swept_by, swept_at, sweep, swept_answer, reclaim_iso, data_seen, data_place, status_place, reclaim_control, reclaim_bulk, bad_record, reclaim_tests, reclaim_no, reclaim_flying, reclaim_found, reclaim, nothing}
@@ -80,9 +82,9 @@ module _ (slots : ℕ) (finished other : List ℕ) (v : Record) (number : ℕ) w
         by_last true = refl
         by_last false = on put (put_same (counted (packet_at l number k) n))
 
-    by_place : (f : Finished) → swept_at slots other v number f k l more' ≡ swept_at slots finished v number f k l more
-    by_place place.Nothing = on l s
-    by_place (place.Event w) = by_worth (worth (code_of w) (packet_at l number k).requested (remaining_of w)) (code_of w)
+    by_place : (f : Option Words) → swept_at slots other v number f k l more' ≡ swept_at slots finished v number f k l more
+    by_place None = on l s
+    by_place (Some w) = by_worth (worth (code_of w) (packet_at l number k).requested (remaining_of w)) (code_of w)
 
   sweep_same : (n k : ℕ) (l : List ℕ) → n + k ≤ v.count → SameFrom k l → sweep slots other v number n k l ≡ sweep slots finished v number n k l
   unfolding sweep
@@ -104,7 +106,7 @@ module _ (slots : ℕ) (finished other : List ℕ) (v : Record) (number : ℕ) w
           new ≡ old
       by_mark on true m = on l later
       by_mark on false m =
-          ap (λ (f : Finished). swept_at slots other v number f k l (λ x. sweep slots other v number n (k + 1) x)) (s k (omega arith) (omega arith) m)
+          ap (λ (f : Option Words). swept_at slots other v number f k l (λ x. sweep slots other v number n (k + 1) x)) (s k (omega arith) (omega arith) m)
           ∙ by_place k l (λ x. sweep slots finished v number n (k + 1) x) (λ x. sweep slots other v number n (k + 1) x) later on (finished_at finished (place_of slots v.place k))
 
 -- ---- the places that are looked at
@@ -140,7 +142,7 @@ module _ (e : Endpoint) (finished other records packets : List ℕ) (v : Record)
 
   module _ (kind : v.kind ≡ control) where
     not_iso : v.kind ≡ isoch → ⊥
-    not_iso i = omega arith
+    not_iso i = kinds_apart v.kind control isoch refl kind i
 
     control_count : trb_count v ≡ pick (eqb v.length 0) 2 3
     unfolding trb_count
@@ -179,36 +181,36 @@ module _ (e : Endpoint) (finished other records packets : List ℕ) (v : Record)
   flying_same : (v.kind ≡ isoch → v.count ≤ packet_count) → reclaim_flying e other records packets v r ≡ reclaim_flying e finished records packets v r
   unfolding reclaim_flying trb_count
   flying_same few =
-      same_picks (eqb v.kind control) _ _ _ _ (λ t. rw (control_same (eqb-true _ _ t)))
-      (λ t. same_picks (eqb v.kind isoch) _ _ _ _ (λ u. let kind = eqb-true v.kind isoch u in rw (iso_same kind (few kind)))
-      (λ u. same_picks (eqb v.kind bulk || eqb v.kind interrupt) _ _ _ _
-      (λ z. rw (bulk_same (eqb-false _ _ u) (one t u z)))
+      same_picks (kind_is v.kind control) _ _ _ _ (λ t. rw (control_same (kind_true v.kind control t)))
+      (λ t. same_picks (kind_is v.kind isoch) _ _ _ _ (λ u. let kind = kind_true v.kind isoch u in rw (iso_same kind (few kind)))
+      (λ u. same_picks (kind_is v.kind bulk || kind_is v.kind interrupt) _ _ _ _
+      (λ z. rw (bulk_same (kind_false v.kind isoch u) (one t u z)))
       (λ z. refl)))
     where
-      one : eqb v.kind control ≡ false → eqb v.kind isoch ≡ false → (eqb v.kind bulk || eqb v.kind interrupt) ≡ true → 0 < trb_count v
-      one t u z = rw (t, u) (let q = only_one (eqb v.kind bulk) (eqb v.kind interrupt) z in omega arith)
+      one : kind_is v.kind control ≡ false → kind_is v.kind isoch ≡ false → (kind_is v.kind bulk || kind_is v.kind interrupt) ≡ true → 0 < trb_count v
+      one t u z = rw (t, u) (let q = only_one (kind_is v.kind bulk) (kind_is v.kind interrupt) z in omega arith)
 
 -- ---- the call
 
 -- A record in flight that is not bad has its place among the slots 0 to L-2.
-place_low : (e : Endpoint) (records : List ℕ) (r : ℕ) → bad_record e records (At r) ≡ false → (record_at records r).state ≡ in_flight → (record_at records r).place + 1 < e.shape.slots
+place_low : (e : Endpoint) (records : List ℕ) (r : ℕ) → bad_record e records (Some r) ≡ false → (record_at records r).state ≡ in_flight → (record_at records r).place + 1 < e.shape.slots
 place_low e records r bad flying =
     let v = record_at records r in
     let high = leb e.shape.slots (v.place + 1) in
-    let over = eqb v.kind isoch && ltb packet_count v.count in
-    leb-false _ _ (both_false high over (and_left _ (high || over) bad (eq-eqb _ _ flying))).0
+    let over = kind_is v.kind isoch && ltb packet_count v.count in
+    leb-false _ _ (both_false high over (and_left _ (high || over) bad (eq_state v.state in_flight flying))).0
 
 module _ (e : Endpoint) (finished other records packets : List ℕ) (id : ℕ) (long : length other ≡ length finished)
-    (same : (r p : ℕ) → find_in records e.account.occupancy id ≡ At r → Needed e packets (record_at records r) r p → finished_at other p ≡ finished_at finished p) where
-  found_same : (f : Lookup) → find_in records e.account.occupancy id ≡ f → bad_record e records f ≡ false
+    (same : (r p : ℕ) → find_in records e.account.occupancy id ≡ Some r → Needed e packets (record_at records r) r p → finished_at other p ≡ finished_at finished p) where
+  found_same : (f : Option ℕ) → find_in records e.account.occupancy id ≡ f → bad_record e records f ≡ false
       → reclaim_found f e other records packets ≡ reclaim_found f e finished records packets
-  found_same Nothing is bad = refl
-  found_same (At r) is bad =
+  found_same None is bad = refl
+  found_same (Some r) is bad =
       let v = record_at records r in
-      same_picks (eqb v.state stopped) _ _ _ _ (λ t. refl)
-      (λ t. same_picks (eqb v.state in_flight) _ _ _ _
+      same_picks (state_is v.state stopped) _ _ _ _ (λ t. refl)
+      (λ t. same_picks (state_is v.state in_flight) _ _ _ _
       (λ u.
-      let flying = eqb-true v.state in_flight u in
+      let flying = state_true v.state in_flight u in
       flying_same e finished other records packets v r (place_low e records r bad flying) (λ p. same r p is) (few_packets e v bad flying))
       (λ u. refl))
 
@@ -227,42 +229,42 @@ module _ (e : Endpoint) (finished other records packets : List ℕ) (id : ℕ) (
 
 module _ (e : Endpoint) (finished records packets : List ℕ) (v : Record) (r : ℕ) where
   -- What stands in the place of TRB k.
-  abbrev pub stands_at : ℕ → Finished
+  abbrev pub stands_at : ℕ → Option Words
   stands_at k = finished_at finished (place_of e.shape.slots v.place k)
 
   -- The event of the request's last TRB stands in its place,
   abbrev pub Last : Type 0
-  Last = (w : Words) × (k : ℕ) × (k + 1 ≡ trb_count v) × (stands_at k ≡ place.Event w)
+  Last = (w : Words) × (k : ℕ) × (k + 1 ≡ trb_count v) × (stands_at k ≡ Some w)
 
   -- or an event whose code is refused: of an earlier stage of a control request, or of a packet that is not marked.
   pub data Telling : Type 0 where
     last : Last → Telling
-    stage : (w : Words) (k : ℕ) → k + 1 < trb_count v → stands_at k ≡ place.Event w → accepted (code_of w) ≡ false → Telling
+    stage : (w : Words) (k : ℕ) → k + 1 < trb_count v → stands_at k ≡ Some w → accepted (code_of w) ≡ false → Telling
     packet : (k : ℕ) → k < v.count → Refuses (packet_at packets r k) (stands_at k) → Telling
 
   -- What an answer tells of the events.
-  pub record Over (x : ReclaimedOne) : Type 0 where
+  pub record Over (x : After Reclaimed) : Type 0 where
     pub told : final x.answer ≡ true → Telling
-    pub done : (c : Completion) → x.answer ≡ answer.Done c → Last
+    pub done : (c : Completion) → x.answer ≡ Ok (answer.Done c) → Last
 
   waits : Over (nothing e)
   waits = record { told = λ over. absurd (false≢true over); done = λ c d. absurd (never_done e v r c d) }
 
-  ends_last : (x : ReclaimedOne) → Last → Over x
+  ends_last : (x : After Reclaimed) → Last → Over x
   ends_last x l = record { told = λ over. last l; done = λ c d. l }
 
-  by_last : (f : Finished) → ((w : Words) → f ≡ place.Event w → Last) → Over (bulk_by f e v r)
-  by_last place.Nothing l = waits
-  by_last (place.Event w) l = ends_last (bulk_by (place.Event w) e v r) (l w refl)
+  by_last : (f : Option Words) → ((w : Words) → f ≡ Some w → Last) → Over (bulk_by f e v r)
+  by_last None l = waits
+  by_last (Some w) l = ends_last (bulk_by (Some w) e v r) (l w refl)
 
-  status_by_lem : (f : Finished) (recorded : ℕ) → ((w : Words) → f ≡ place.Event w → Last) → Over (status_by f e v r recorded)
-  status_by_lem place.Nothing recorded l = waits
-  status_by_lem (place.Event w) recorded l = ends_last (status_by (place.Event w) e v r recorded) (l w refl)
+  status_by_lem : (f : Option Words) (recorded : ℕ) → ((w : Words) → f ≡ Some w → Last) → Over (status_by f e v r recorded)
+  status_by_lem None recorded l = waits
+  status_by_lem (Some w) recorded l = ends_last (status_by (Some w) e v r recorded) (l w refl)
 
-  stage_by_lem : (f : Finished) (more : ReclaimedOne) → ((w : Words) → f ≡ place.Event w → (k : ℕ) × (k + 1 < trb_count v) × (stands_at k ≡ place.Event w)) → Over more
+  stage_by_lem : (f : Option Words) (more : After Reclaimed) → ((w : Words) → f ≡ Some w → (k : ℕ) × (k + 1 < trb_count v) × (stands_at k ≡ Some w)) → Over more
       → Over (after_stage (stage_by f e v r) more)
-  stage_by_lem place.Nothing more at m = m
-  stage_by_lem (place.Event w) more at m =
+  stage_by_lem None more at m = m
+  stage_by_lem (Some w) more at m =
       picked (λ (s : Seen). Over (after_stage s more)) (accepted (code_of w)) onward (ends (complete e v r (code_of w) true 0))
       (λ t. m)
       (λ t. record {
@@ -290,15 +292,15 @@ module _ (e : Endpoint) (finished records packets : List ℕ) (v : Record) (r : 
         first_stage : 0 + 1 < trb_count v
         first_stage = subst (λ (n : ℕ). 0 + 1 < n) (sym count) (picked (λ (n : ℕ). 0 + 1 < n) (eqb v.length 0) 2 3 (λ t. omega arith) (λ t. omega arith))
 
-        by_length : (b : Bool) → eqb v.length 0 ≡ b → (w : Words) → pick b place.Nothing (finished_at finished (data_place e v)) ≡ place.Event w
-            → (k : ℕ) × (k + 1 < trb_count v) × (stands_at k ≡ place.Event w)
+        by_length : (b : Bool) → eqb v.length 0 ≡ b → (w : Words) → pick b None (finished_at finished (data_place e v)) ≡ Some w
+            → (k : ℕ) × (k + 1 < trb_count v) × (stands_at k ≡ Some w)
         by_length true t w here = absurd (let z : ◌≡◌ {A = ℕ} 0 1 = cc in omega arith)
         by_length false t w here = let three : trb_count v ≡ 3 = count ∙ rw t in (1, omega arith, here)
 
-        data_stage : (w : Words) → data_seen e finished v ≡ place.Event w → (k : ℕ) × (k + 1 < trb_count v) × (stands_at k ≡ place.Event w)
+        data_stage : (w : Words) → data_seen e finished v ≡ Some w → (k : ℕ) × (k + 1 < trb_count v) × (stands_at k ≡ Some w)
         data_stage = by_length (eqb v.length 0) refl
 
-        last_stage : (w : Words) → finished_at finished (status_place e v) ≡ place.Event w → Last
+        last_stage : (w : Words) → finished_at finished (status_place e v) ≡ Some w → Last
         last_stage w here = (w, pick (eqb v.length 0) 1 2, subst (λ (n : ℕ). pick (eqb v.length 0) 1 2 + 1 ≡ n) (sym count) (plus_one (eqb v.length 0)), here)
           where
             plus_one : (b : Bool) → pick b 1 2 + 1 ≡ pick b 2 3
@@ -312,18 +314,18 @@ module _ (e : Endpoint) (finished records packets : List ℕ) (v : Record) (r : 
   swept_over upto s l count (closed w k all at clear here) = ends_last (swept_answer s e v r l) (w, k, at ∙ sym count, here)
 
 module _ (e : Endpoint) (finished records packets : List ℕ) (id r : ℕ) (admitted : reclaim_no e (length finished) records (length packets) id ≡ 0)
-    (holder : find_in records e.account.occupancy id ≡ At r) (flying : (record_at records r).state ≡ in_flight) where
+    (holder : find_in records e.account.occupancy id ≡ Some r) (flying : (record_at records r).state ≡ in_flight) where
   abbrev v : Record
   v = record_at records r
 
-  abbrev Tells : ReclaimedOne × List ℕ × List ℕ → Type 0
+  abbrev Tells : After Reclaimed × List ℕ × List ℕ → Type 0
   Tells t = Over e finished records packets v r t.0
 
   low : v.place + 1 < e.shape.slots
   unfolding reclaim_no reclaim_tests
   low =
       place_low e records r
-      (subst (λ (f : Lookup). bad_record e records f ≡ false) holder (quiet (reclaim_tests e (length finished) records (length packets) id) 1 refl admitted (omega arith)))
+      (subst (λ (f : Option ℕ). bad_record e records f ≡ false) holder (quiet (reclaim_tests e (length finished) records (length packets) id) 1 refl admitted (omega arith)))
       flying
 
   iso_tells : v.kind ≡ isoch → Over e finished records packets v r (reclaim_iso e finished packets v r).0
@@ -338,10 +340,10 @@ module _ (e : Endpoint) (finished records packets : List ℕ) (id r : ℕ) (admi
   flying_tells : Tells (reclaim_flying e finished records packets v r)
   unfolding reclaim_flying trb_count
   flying_tells =
-      picked Tells (eqb v.kind control) _ _ (λ t. control_over e finished records packets v r low (rw t))
-      (λ t. picked Tells (eqb v.kind isoch) _ _ (λ u. iso_tells (eqb-true _ _ u))
-      (λ u. picked Tells (eqb v.kind bulk || eqb v.kind interrupt) _ _
-      (λ z. bulk_over e finished records packets v r low (rw (t, u) (only_one (eqb v.kind bulk) (eqb v.kind interrupt) z)))
+      picked Tells (kind_is v.kind control) _ _ (λ t. control_over e finished records packets v r low (rw t))
+      (λ t. picked Tells (kind_is v.kind isoch) _ _ (λ u. iso_tells (kind_true v.kind isoch u))
+      (λ u. picked Tells (kind_is v.kind bulk || kind_is v.kind interrupt) _ _
+      (λ z. bulk_over e finished records packets v r low (rw (t, u) (only_one (kind_is v.kind bulk) (kind_is v.kind interrupt) z)))
       (λ z. waits e finished records packets v r)))
 
   -- A request in flight that is over (done, cancelled, failed or mismatched) is told by an event that stands, its last TRB's or one that is refused;

@@ -1,12 +1,13 @@
 -- In every state that is reached from making: outstanding is the TRBs in flight, a retire leaves nothing in flight, a request is reclaimed once,
 -- and a reclaim touches no other request. Assumes nothing.
+use Rattle.std.specs.Prelude.{Option, Some, None, Err, ⊤}
 use Prim.Native.Nat.{ℕ, ◌+◌, ◌-◌, ◌<◌, ◌≤◌}
 use mathlib.Core.Bool.{Bool, true, false, ◌&&◌}
 use mathlib.Core.List.{List}
 use mathlib.Core.Logic.{⊎_elim}
 use mathlib.Core.Path.{◌≡◌, refl, sym, ap, ◌∙◌, subst}
 use native.Mathlib.Omega.{arith}
-use borrow.Author.Tests.{eqb-true, eq-eqb, ne_eqb, not-false}
+use borrow.Author.Tests.{eqb-true, eq-eqb, not-false}
 use lib.Dec.{eqb}
 use lib.ListN.{length}
 use Rattle.base.proofs.Chosen.{quiet}
@@ -17,16 +18,16 @@ use Rattle.mask.specs.Occupancy as masks
 use Rattle.sizes.specs.Sizes.{ring_size, record_count, record_words, records_size, packet_count, packets_size}
 use Rattle.ids.specs.Free.{id_at, held_by}
 use Rattle.ids.specs.Lookup.{find_in}
-use Rattle.ids.specs.declared.Lookup.{Lookup}
-use Rattle.ids.specs.declared.Lookup.TheVariants as lookup
 use Rattle.ids.proofs.AnyLaws.{never_both, by_held}
 use Rattle.ids.proofs.LookupLaws.{find_computed, find_new}
 use Rattle.packets.specs.Packets.{packet_at}
-use Rattle.records.specs.Records.{in_flight, stopped, word_at, record_at}
-use Rattle.dock.specs.declared.Changed.{Changed}
+use Rattle.records.specs.States.{state_is, in_flight, stopped}
+use Rattle.records.specs.Records.{word_at, record_at}
+use Rattle.records.proofs.StateLaws.{eq_state, ne_state, flying_not_stopped}
+use Rattle.dock.specs.declared.After.{After}
+use Rattle.dock.specs.declared.Reclaimed.{Reclaimed}
+use Rattle.dock.specs.Refusals.{refusal, done}
 use Rattle.dock.specs.declared.Endpoint.{Endpoint}
-use Rattle.dock.specs.declared.Outcome.TheVariants.{Done, Refused}
-use Rattle.dock.specs.declared.ReclaimedOne.{ReclaimedOne}
 use Rattle.dock.specs.RowOne.{place_fits, fits, strays, fits_with}
 use Rattle.dock.specs.State.{with_account}
 use Rattle.dock.specs.Start.{id_taken}
@@ -56,7 +57,7 @@ pub ids_distinct : {s : State} → Reached s → (r q : ℕ) → r < record_coun
 ids_distinct h = (reached_sound h).books.distinct
 
 -- The id that a start takes is one that no held record has, in flight or stopped.
-pub taken_id_new : {s : State} → Reached s → find_in s.records s.endpoint.account.occupancy (id_taken s.endpoint s.records) ≡ lookup.Nothing
+pub taken_id_new : {s : State} → Reached s → find_in s.records s.endpoint.account.occupancy (id_taken s.endpoint s.records) ≡ None
 unfolding id_taken
 taken_id_new {s} h =
     let b = (reached_sound h).books in
@@ -88,38 +89,38 @@ module _ (s : State) (h : Sound s) (ready : Ready s.endpoint) (id : ℕ) where
       rw (row, bad, ready.idle)
 
   -- The call that is not refused looks the id up.
-  reclaim_looks : (f : Lookup) → f ≡ find_in s.records s.endpoint.account.occupancy id → bad_record s.endpoint s.records f ≡ false
+  reclaim_looks : (f : Option ℕ) → f ≡ find_in s.records s.endpoint.account.occupancy id → bad_record s.endpoint s.records f ≡ false
       → reclaim s.endpoint s.finished s.records s.packets id ≡ reclaim_found f s.endpoint s.finished s.records s.packets
   unfolding reclaim
   reclaim_looks f found bad =
-      let taken = reclaim_taken (subst (λ (x : Lookup). bad_record s.endpoint s.records x ≡ false) found bad) in
+      let taken = reclaim_taken (subst (λ (x : Option ℕ). bad_record s.endpoint s.records x ≡ false) found bad) in
       rw (taken, ← found)
 
   -- Row 10: an id that no record holds is answered `Nothing`, and nothing changes.
-  pub not_held_nothing : find_in s.records s.endpoint.account.occupancy id ≡ lookup.Nothing
+  pub not_held_nothing : find_in s.records s.endpoint.account.occupancy id ≡ None
       → reclaim s.endpoint s.finished s.records s.packets id ≡ (nothing s.endpoint, s.records, s.packets)
-  not_held_nothing none = reclaim_looks lookup.Nothing (sym none) refl
+  not_held_nothing none = reclaim_looks None (sym none) refl
 
   -- Row 7: a stopped id is answered `Cancelled`, and its record freed.
-  module _ (r : ℕ) (found : find_in s.records s.endpoint.account.occupancy id ≡ lookup.At r) (stops : (record_at s.records r).state ≡ stopped) where
-    not_flying_lem : eqb (record_at s.records r).state in_flight ≡ false
-    not_flying_lem = ne_eqb (record_at s.records r).state in_flight (λ (e : (record_at s.records r).state ≡ in_flight). omega arith)
+  module _ (r : ℕ) (found : find_in s.records s.endpoint.account.occupancy id ≡ Some r) (stops : (record_at s.records r).state ≡ stopped) where
+    not_flying_lem : state_is (record_at s.records r).state in_flight ≡ false
+    not_flying_lem = ne_state (record_at s.records r).state in_flight (λ (e : (record_at s.records r).state ≡ in_flight). flying_not_stopped _ e stops)
 
-    not_bad : bad_record s.endpoint s.records (lookup.At r) ≡ false
+    not_bad : bad_record s.endpoint s.records (Some r) ≡ false
     not_bad = rw not_flying_lem
 
     pub stopped_cancelled : reclaim s.endpoint s.finished s.records s.packets id
         ≡ (reclaim_stopped s.endpoint (record_at s.records r) r, s.records, s.packets)
     stopped_cancelled =
-        let is : eqb (record_at s.records r).state stopped ≡ true = eq-eqb _ _ stops in
-        reclaim_looks (lookup.At r) (sym found) not_bad ∙ rw is
+        let is : state_is (record_at s.records r).state stopped ≡ true = eq_state _ _ stops in
+        reclaim_looks (Some r) (sym found) not_bad ∙ rw is
 
     -- Row 6: it cannot be cancelled.
     stopped_row : cancel_no s.endpoint s.records id ≡ 6
     unfolding cancel_no cancel_tests
     stopped_row = rw (ready_with s.endpoint s.records ready h.records_long, ready.idle, found, not_flying_lem)
 
-    pub stopped_not_cancellable : cancel s.endpoint s.records id ≡ (Refused 6, s.records)
+    pub stopped_not_cancellable : cancel s.endpoint s.records id ≡ (Err (refusal 6), s.records)
     unfolding cancel
     stopped_not_cancellable = rw stopped_row
 
@@ -142,7 +143,7 @@ reclaim_ready e finished records packets id t =
     record { fitting = all.0.0.0.0; idle = reclaim_idle e finished records packets id t }
 
 module _ (s : State) (h : Sound s) (id : ℕ) where
-  abbrev result : ReclaimedOne × List ℕ × List ℕ
+  abbrev result : After Reclaimed × List ℕ × List ℕ
   result = reclaim s.endpoint s.finished s.records s.packets id
 
   -- What has happened where the answer says that the request is over.
@@ -163,7 +164,7 @@ module _ (s : State) (h : Sound s) (id : ℕ) where
       (λ (u : Looked s id result).
       let is = (by_held (held s.endpoint.account.occupancy) (id_at s.records) id u.number).so u.lowest.here in
       ⊎_elim
-      (λ (n : result.0 ≡ nothing s.endpoint). absurd (never_both over (ap (λ (x : ReclaimedOne). final x.answer) n)))
+      (λ (n : result.0 ≡ nothing s.endpoint). absurd (never_both over (ap (λ (x : After Reclaimed). final x.answer) n)))
       (λ (n : Left s.endpoint u.number (flight_part s.records s.endpoint.account.occupancy u.number) result.0).
       record {
         number = u.number;
@@ -192,10 +193,10 @@ module _ (s : State) (h : Sound s) (id : ℕ) where
       d (h.books.distinct k r l g.within (sym (freed_other a s.records r g.within k d) ∙ f.0) g.held (sym (g.alike.id k) ∙ f.1 ∙ sym g.named)))
       (same_or_not k r))
 
-  pub then_not_held : final result.0.answer ≡ true → find_in result.1 result.0.endpoint.account.occupancy id ≡ lookup.Nothing
+  pub then_not_held : final result.0.answer ≡ true → find_in result.1 result.0.endpoint.account.occupancy id ≡ None
   then_not_held over =
       let g = over_gone over in
-      rw g.left (sym (find_computed record_count _ (id_at result.1) id lookup.Nothing (nobody g)))
+      rw g.left (sym (find_computed record_count _ (id_at result.1) id None (nobody g)))
 
   -- and the endpoint takes calls as before.
   pub then_ready : final result.0.answer ≡ true → Ready result.0.endpoint
@@ -216,16 +217,16 @@ reclaimed_once {s} h id over =
 abbrev pub Has : State → ℕ → ℕ → Type 0
 Has s id r = (held s.endpoint.account.occupancy r ≡ true) × (id_at s.records r ≡ id)
 
-holder : (s : State) (id : ℕ) (t : ReclaimedOne × List ℕ × List ℕ) (u : Looked s id t) (q : ℕ) → q ≡ u.number → Has s id q
+holder : (s : State) (id : ℕ) (t : After Reclaimed × List ℕ × List ℕ) (u : Looked s id t) (q : ℕ) → q ≡ u.number → Has s id q
 holder s id t u q e =
     let is = (by_held (held s.endpoint.account.occupancy) (id_at s.records) id u.number).so u.lowest.here in
     (ap (held s.endpoint.account.occupancy) e ∙ is.0, ap (id_at s.records) e ∙ is.1)
 
 -- It is the one that is found.
-pub held_found : (s : State) → Sound s → (id r : ℕ) → r < record_count → Has s id r → find_in s.records s.endpoint.account.occupancy id ≡ lookup.At r
+pub held_found : (s : State) → Sound s → (id r : ℕ) → r < record_count → Has s id r → find_in s.records s.endpoint.account.occupancy id ≡ Some r
 held_found s h id r l has =
     let f = held s.endpoint.account.occupancy in
-    sym (find_computed record_count f (id_at s.records) id (lookup.At r)
+    sym (find_computed record_count f (id_at s.records) id (Some r)
     (record {
       within = l;
       here = if_so (by_held f (id_at s.records) id r) has;
@@ -279,7 +280,7 @@ pub unknown_nothing : {s : State} → Reached s → s.endpoint.work.busy ≡ fal
 unknown_nothing {s} h idle id unknown =
     let f = held s.endpoint.account.occupancy in
     not_held_nothing s (reached_sound h) (reached_ready h idle) id
-    (sym (find_computed record_count f (id_at s.records) id lookup.Nothing (λ k l. if_not (by_held f (id_at s.records) id k) (unknown k l))))
+    (sym (find_computed record_count f (id_at s.records) id None (λ k l. if_not (by_held f (id_at s.records) id k) (unknown k l))))
 
 module _ {s : State} (h : Reached s) (idle : s.endpoint.work.busy ≡ false) (id r : ℕ) (l : r < record_count) (has : Has s id r)
     (stops : (record_at s.records r).state ≡ stopped) where
@@ -290,20 +291,20 @@ module _ {s : State} (h : Reached s) (idle : s.endpoint.work.busy ≡ false) (id
 
   -- once,
   pub stopped_once : let t = after s (reclaims id) in reclaim t.endpoint t.finished t.records t.packets id ≡ (nothing t.endpoint, t.records, t.packets)
-  stopped_once = reclaimed_once h id (ap (λ (x : ReclaimedOne × List ℕ × List ℕ). final x.0.answer) stopped_reclaimed)
+  stopped_once = reclaimed_once h id (ap (λ (x : After Reclaimed × List ℕ × List ℕ). final x.0.answer) stopped_reclaimed)
 
   -- and cannot be cancelled (6).
-  pub stopped_refuses_cancel : cancel s.endpoint s.records id ≡ (Refused 6, s.records)
+  pub stopped_refuses_cancel : cancel s.endpoint s.records id ≡ (Err (refusal 6), s.records)
   stopped_refuses_cancel = stopped_not_cancellable s (reached_sound h) (reached_ready h idle) id r (held_found s (reached_sound h) id r l has) stops
 
 -- ---- after a retire
 
 module _ (s : State) (h : Sound s) where
   -- A retire that is done has passed its tests.
-  retire_passed : (retire s.endpoint s.records).0.answer ≡ Done → record_no s.endpoint s.records ≡ 0
+  retire_passed : (retire s.endpoint s.records).0.answer ≡ done → record_no s.endpoint s.records ≡ 0
   unfolding retire
   retire_passed =
-      picked (λ (a : Changed × List ℕ). a.0.answer ≡ Done → record_no s.endpoint s.records ≡ 0) (eqb (record_no s.endpoint s.records) 0) _ _
+      picked (λ (a : After ⊤ × List ℕ). a.0.answer ≡ done → record_no s.endpoint s.records ≡ 0) (eqb (record_no s.endpoint s.records) 0) _ _
       (λ t d. eqb-true _ _ t)
       (λ t d. absurd (let z : ◌≡◌ {A = ℕ} 0 1 = cc in omega arith))
 
@@ -316,7 +317,7 @@ module _ (s : State) (h : Sound s) where
 
   retire_is : record_no s.endpoint s.records ≡ 0
       → retire s.endpoint s.records
-      ≡ (record { answer = Done; endpoint = with_account s.endpoint (retired_account s.endpoint.account below.0) }, below.1)
+      ≡ (record { answer = done; endpoint = with_account s.endpoint (retired_account s.endpoint.account below.0) }, below.1)
   unfolding retire
   retire_is t = rw (eq-eqb _ _ t)
 
@@ -329,21 +330,21 @@ module _ (s : State) (h : Sound s) where
       rw (retire_is t) (mine, all.id r)
 
 -- A retire that is done leaves outstanding 0,
-pub retire_empties : {s : State} → Reached s → (retire s.endpoint s.records).0.answer ≡ Done → (after s retires).endpoint.account.outstanding ≡ 0
+pub retire_empties : {s : State} → Reached s → (retire s.endpoint s.records).0.answer ≡ done → (after s retires).endpoint.account.outstanding ≡ 0
 retire_empties {s} h done =
     let sound = reached_sound h in
     let t = retire_passed s sound done in
     rw (retire_is s sound t) (retired_none s.endpoint.account s.records sound.records_long sound.books)
 
 -- the records held that were,
-pub retire_holds : {s : State} → Reached s → (retire s.endpoint s.records).0.answer ≡ Done
+pub retire_holds : {s : State} → Reached s → (retire s.endpoint s.records).0.answer ≡ done
     → (after s retires).endpoint.account.occupancy ≡ s.endpoint.account.occupancy
 retire_holds {s} h done =
     let sound = reached_sound h in
     rw (retire_is s sound (retire_passed s sound done))
 
 -- and each of them stopped.
-pub retire_stops : {s : State} → Reached s → (retire s.endpoint s.records).0.answer ≡ Done
+pub retire_stops : {s : State} → Reached s → (retire s.endpoint s.records).0.answer ≡ done
     → (r : ℕ) → r < record_count → held s.endpoint.account.occupancy r ≡ true → (record_at (after s retires).records r).state ≡ stopped
 retire_stops {s} h done r l mine =
     let sound = reached_sound h in
@@ -351,7 +352,7 @@ retire_stops {s} h done r l mine =
     rw (retire_is s sound t) (retired_stopped s.endpoint.account s.records sound.records_long sound.books r l mine)
 
 -- So the id of a record that was held is reclaimed as `Cancelled` (7), once, and cannot be cancelled (6).
-module _ {s : State} (h : Reached s) (done : (retire s.endpoint s.records).0.answer ≡ Done) (r : ℕ) (l : r < record_count)
+module _ {s : State} (h : Reached s) (done : (retire s.endpoint s.records).0.answer ≡ done) (r : ℕ) (l : r < record_count)
     (mine : held s.endpoint.account.occupancy r ≡ true) where
   abbrev t : State
   t = after s retires
@@ -370,10 +371,10 @@ module _ {s : State} (h : Reached s) (done : (retire s.endpoint s.records).0.ans
 
   pub retired_cancelled : (reclaim t.endpoint t.finished t.records t.packets its).0 ≡ reclaim_stopped t.endpoint (record_at t.records r) r
   retired_cancelled =
-      ap (λ (x : ReclaimedOne × List ℕ × List ℕ). x.0) (stopped_reclaimed (next h retires) idle_then its r l has_then (retire_stops h done r l mine))
+      ap (λ (x : After Reclaimed × List ℕ × List ℕ). x.0) (stopped_reclaimed (next h retires) idle_then its r l has_then (retire_stops h done r l mine))
 
   pub retired_once : let u = after t (reclaims its) in reclaim u.endpoint u.finished u.records u.packets its ≡ (nothing u.endpoint, u.records, u.packets)
   retired_once = stopped_once (next h retires) idle_then its r l has_then (retire_stops h done r l mine)
 
-  pub retired_not_cancellable : cancel t.endpoint t.records its ≡ (Refused 6, t.records)
+  pub retired_not_cancellable : cancel t.endpoint t.records its ≡ (Err (refusal 6), t.records)
   retired_not_cancellable = stopped_refuses_cancel (next h retires) idle_then its r l has_then (retire_stops h done r l mine)

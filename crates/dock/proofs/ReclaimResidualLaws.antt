@@ -1,5 +1,6 @@
 -- The bytes that the dock counts are the bytes moved, for every event that the standard lets a controller write: for a packet, a bulk or interrupt
 -- request and a control request's data. Assumes nothing.
+use Rattle.std.specs.Prelude.{Some, Ok}
 use Prim.Native.Nat.{ℕ, ◌+◌, ◌-◌, ◌%◌, ◌^◌, ◌≤◌, ◌<◌}
 use mathlib.Core.Bool.{Bool, true, false, not, false≢true}
 use mathlib.Core.List.{List}
@@ -13,7 +14,6 @@ use Rattle.event.specs.Event.{event_of, event_layout}
 use Rattle.event.specs.declared.Event.{Event}
 use Rattle.event.proofs.EventLaws.{event_reads}
 use Rattle.finished.specs.Finished.{finished_at}
-use Rattle.finished.specs.declared.Finished.TheVariants as place
 use Rattle.records.specs.declared.Record.{Record}
 use Rattle.dock.specs.declared.Completion.{Completion}
 use Rattle.dock.specs.declared.Endpoint.{Endpoint}
@@ -81,18 +81,18 @@ moved_residual stopped_length_invalid a requested field n is = absurd (false≢t
 
 module _ (e : Endpoint) (v : Record) (number : ℕ) (w : Words) (t : Told) (says : Tells (code_of w) t) (n : ℕ) (is : Writes t v.length (remaining_of w) n) where
   -- A bulk or interrupt request that is done reports the bytes moved.
-  pub bulk_moved : (finished : List ℕ) (c : Completion) → finished_at finished v.place ≡ place.Event w → (reclaim_bulk e finished v number).answer ≡ answer.Done c → c.length ≡ n
+  pub bulk_moved : (finished : List ℕ) (c : Completion) → finished_at finished v.place ≡ Some w → (reclaim_bulk e finished v number).answer ≡ Ok (answer.Done c) → c.length ≡ n
   unfolding reclaim_bulk
   bulk_moved finished c here d = told (accepted (code_of w)) refl (rw here at d)
     where
-      told : (b : Bool) → accepted (code_of w) ≡ b → (bulk_by (place.Event w) e v number).answer ≡ answer.Done c → c.length ≡ n
+      told : (b : Bool) → accepted (code_of w) ≡ b → (bulk_by (Some w) e v number).answer ≡ Ok (answer.Done c) → c.length ≡ n
       told true a d = done_size e v number (code_of w) _ _ c d ∙ moved_residual says a v.length (remaining_of w) n is
       told false a d =
           absurd (refused_not_done e v number (code_of w) (moved_bytes v.length (remaining_of w)) c
-          (subst (λ (b : Bool). (complete e v number (code_of w) (not b) (moved_bytes v.length (remaining_of w))).answer ≡ answer.Done c) a d))
+          (subst (λ (b : Bool). (complete e v number (code_of w) (not b) (moved_bytes v.length (remaining_of w))).answer ≡ Ok (answer.Done c)) a d))
 
   -- What a data event records is the length that the status event then reports: the bytes moved.
-  pub data_moved : accepted (code_of w) ≡ true → v.length < 2 ^ 64 → recorded_length v (recorded_by (place.Event w) v) ≡ n
+  pub data_moved : accepted (code_of w) ≡ true → v.length < 2 ^ 64 → recorded_length v (recorded_by (Some w) v) ≡ n
   data_moved a fits =
       let same = moved_residual says a v.length (remaining_of w) n is in
       let recorded : ℕ = (moved_bytes v.length (remaining_of w) + 1) % 2 ^ 64 in

@@ -1,6 +1,7 @@
 -- What becomes of every packet of an ISO request that is reclaimed, as one law: a marked packet stays as it was, one with an event counts what its
 -- event is worth, one without counts 0 where the last packet is found and else stays; a refused code ends the walk, and its packet and those behind
 -- it stay. Assumes nothing.
+use Rattle.std.specs.Prelude.{Option, Some, None}
 use Prim.Native.Nat.{ℕ, zero, suc, ◌+◌, ◌%◌, ◌^◌, ◌≤◌, ◌<◌}
 use mathlib.Core.Bool.{Bool, true, false, false≢true}
 use mathlib.Core.List.{List}
@@ -17,8 +18,6 @@ use Rattle.base.proofs.ReadBack.{read_back, read_back_exact, flag_read}
 use Rattle.sizes.specs.Sizes.{record_count, packet_count, packets_size}
 use Rattle.trb.specs.declared.Words.{Words}
 use Rattle.finished.specs.Finished.{finished_at}
-use Rattle.finished.specs.declared.Finished.{Finished}
-use Rattle.finished.specs.declared.Finished.TheVariants as place
 use Rattle.packets.specs.Packets.{packet_index, packet_of, packet_fields, packet_word, packet_at, put_packet}
 use Rattle.packets.specs.declared.Packet.{Packet}
 use Rattle.records.specs.declared.Record.{Record}
@@ -35,16 +34,16 @@ credited refused p = p
 credited (bytes n) p = counted p (n % 2 ^ 31)
 
 -- A packet that is not marked, by what stands in its place. Where the walk closes, no event counts 0.
-abbrev pub unmarked_by : Bool → Finished → Packet → Packet
-unmarked_by closes place.Nothing p = pick closes (counted p 0) p
-unmarked_by closes (place.Event w) p = credited (worth (code_of w) p.requested (remaining_of w)) p
+abbrev pub unmarked_by : Bool → Option Words → Packet → Packet
+unmarked_by closes None p = pick closes (counted p 0) p
+unmarked_by closes (Some w) p = credited (worth (code_of w) p.requested (remaining_of w)) p
 
-abbrev pub settled : Bool → Finished → Packet → Packet
+abbrev pub settled : Bool → Option Words → Packet → Packet
 settled closes f p = pick p.marked p (unmarked_by closes f p)
 
 -- The packet is not marked, and the event in its place is refused.
-abbrev pub Refuses : Packet → Finished → Type 0
-Refuses p f = (w : Words) × (p.marked ≡ false) × (f ≡ place.Event w) × (worth (code_of w) p.requested (remaining_of w) ≡ refused)
+abbrev pub Refuses : Packet → Option Words → Type 0
+Refuses p f = (w : Words) × (p.marked ≡ false) × (f ≡ Some w) × (worth (code_of w) p.requested (remaining_of w) ≡ refused)
 
 -- Whether the last packet was found.
 abbrev pub is_found : Swept → Bool
@@ -53,13 +52,13 @@ is_found (fatal code) = false
 is_found (found code) = true
 
 -- How a walk over `count` packets p with what stands in their places f ended, having passed the packets below `upto`.
-pub data Ending (p : ℕ → Packet) (f : ℕ → Finished) (count upto : ℕ) : Swept → Type 0 where
+pub data Ending (p : ℕ → Packet) (f : ℕ → Option Words) (count upto : ℕ) : Swept → Type 0 where
   -- with the last packet marked before, or without an event,
-  ran : upto ≡ count → ((k : ℕ) → k + 1 ≡ count → ((p k).marked ≡ true) ⊎ (f k ≡ place.Nothing)) → Ending p f count upto unfinished
+  ran : upto ≡ count → ((k : ℕ) → k + 1 ≡ count → ((p k).marked ≡ true) ⊎ (f k ≡ None)) → Ending p f count upto unfinished
   -- at a packet whose event has a refused code,
   broke : upto < count → (x : Refuses (p upto) (f upto)) → Ending p f count upto (fatal (code_of x.0))
   -- or at the last packet's event.
-  closed : (w : Words) (k : ℕ) → upto ≡ count → k + 1 ≡ count → (p k).marked ≡ false → f k ≡ place.Event w → Ending p f count upto (found (code_of w))
+  closed : (w : Words) (k : ℕ) → upto ≡ count → k + 1 ≡ count → (p k).marked ≡ false → f k ≡ Some w → Ending p f count upto (found (code_of w))
 
 -- What a walk over the packets of a record leaves.
 pub record Settles (slots : ℕ) (finished : List ℕ) (v : Record) (number : ℕ) (packets : List ℕ) (s : Swept × List ℕ) : Type 0 where
@@ -98,7 +97,7 @@ shut_open : (p : Packet) → p.marked ≡ false → shut p ≡ counted p 0
 shut_open p m = rw m
 
 -- A marked packet stays.
-stays_marked : (b : Bool) (f : Finished) (p : Packet) → p.marked ≡ true → pick b (shut p) p ≡ settled b f p
+stays_marked : (b : Bool) (f : Option Words) (p : Packet) → p.marked ≡ true → pick b (shut p) p ≡ settled b f p
 stays_marked true f p m = rw m
 stays_marked false f p m = rw m
 
@@ -167,7 +166,7 @@ module _ (number : ℕ) (inside : number < record_count) where
   -- ---- the walk, from packet k on
 
   module _ (slots : ℕ) (finished : List ℕ) (v : Record) (few : v.count ≤ packet_count) where
-    abbrev seen_at : ℕ → Finished
+    abbrev seen_at : ℕ → Option Words
     seen_at k = finished_at finished (place_of slots v.place k)
 
     -- What the rest of a walk leaves: the packets before k are shut where the last packet is found.
@@ -183,7 +182,7 @@ module _ (number : ℕ) (inside : number < record_count) where
 
     -- A walk that has come to its end without an answer has seen no event at the last packet.
     abbrev Before : ℕ → List ℕ → Type 0
-    Before k l = (j : ℕ) → j + 1 ≡ k → j + 1 ≡ v.count → ((packet_at l number j).marked ≡ true) ⊎ (seen_at j ≡ place.Nothing)
+    Before k l = (j : ℕ) → j + 1 ≡ k → j + 1 ≡ v.count → ((packet_at l number j).marked ≡ true) ⊎ (seen_at j ≡ None)
 
     -- One packet more in front: only that packet has changed, and it is what it is to be.
     step : (k : ℕ) (l m : List ℕ) (s : Swept × List ℕ) → ((j : ℕ) → (j ≡ k → ⊥) → packet_at m number j ≡ packet_at l number j)
@@ -215,7 +214,7 @@ module _ (number : ℕ) (inside : number < record_count) where
     ending_moved : (k : ℕ) (l m : List ℕ) → ((j : ℕ) → (j ≡ k → ⊥) → packet_at m number j ≡ packet_at l number j) → k + 1 < v.count
         → (upto : ℕ) → k + 1 ≤ upto → (s : Swept) → Ending (packet_at m number) seen_at v.count upto s → Ending (packet_at l number) seen_at v.count upto s
     ending_moved k l m same more upto from s (ran all last) =
-        ran all (λ j e. subst (λ (p : Packet). (p.marked ≡ true) ⊎ (seen_at j ≡ place.Nothing)) (same j (λ q. omega arith)) (last j e))
+        ran all (λ j e. subst (λ (p : Packet). (p.marked ≡ true) ⊎ (seen_at j ≡ None)) (same j (λ q. omega arith)) (last j e))
     ending_moved k l m same more upto from s (broke low x) =
         let p = same upto (λ q. omega arith) in
         broke low (x.0, subst (λ (y : Packet). y.marked ≡ false) p x.1, x.2, subst (λ (y : Packet). worth (code_of x.0) y.requested (remaining_of x.0) ≡ refused) p x.3)
@@ -230,7 +229,7 @@ module _ (number : ℕ) (inside : number < record_count) where
       at : packet_index number k < length l
       at = index l k long (omega arith)
 
-      module _ (w : Words) (here : seen_at k ≡ place.Event w) where
+      module _ (w : Words) (here : seen_at k ≡ Some w) where
         -- what a packet that is not marked becomes by this event
         by_event : (x : Worth) → worth (code_of w) p.requested (remaining_of w) ≡ x → (b : Bool) → settled b (seen_at k) p ≡ credited x p
         by_event x is b = rw (clear, here, is)
@@ -284,11 +283,11 @@ module _ (number : ℕ) (inside : number < record_count) where
         }
         by_worth (bytes n) is = by_last n is (eqb (k + 1) v.count) refl
 
-      by_place : (f : Finished) → seen_at k ≡ f → Tail k l (swept_at slots finished v number f k l more)
-      by_place place.Nothing here =
+      by_place : (f : Option Words) → seen_at k ≡ f → Tail k l (swept_at slots finished v number f k l more)
+      by_place None here =
           let t = onwards l long (λ j q z. let i : j ≡ k = omega arith in inr (ap seen_at i ∙ here)) in
           step k l l (more l) (λ j d. refl) (λ b. rw (clear, here)) (λ x. let q = x.2 in let z : ◌≡◌ {A = ℕ} 0 1 = cc in omega arith) t t.ending
-      by_place (place.Event w) here = by_worth w here (worth (code_of w) p.requested (remaining_of w)) refl
+      by_place (Some w) here = by_worth w here (worth (code_of w) p.requested (remaining_of w)) refl
 
     sweep_tail : (n k : ℕ) (l : List ℕ) → Long l → n + k ≡ v.count → Before k l → Tail k l (sweep slots finished v number n k l)
     unfolding sweep

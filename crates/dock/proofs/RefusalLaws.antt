@@ -1,5 +1,6 @@
 -- Every call's refusals: its number is 0 exactly where none of its tests holds and else that of the first test that does, in document 01's order; and
 -- a call whose number is not 0 answers that number and leaves the endpoint and every table as they were. Assumes nothing.
+use Rattle.std.specs.Prelude.{Err, Ok, None, Some}
 use Prim.Native.Nat.{ℕ, max}
 use mathlib.Core.Bool.{Bool, true, false, ◌&&◌, not}
 use mathlib.Core.List.{List}
@@ -17,18 +18,11 @@ use Rattle.ids.proofs.AnyLaws.{true_or_false}
 use Rattle.ring.specs.Ring.{enqueue_pointer}
 use Rattle.finished.specs.Finished.{fill_place}
 use Rattle.records.specs.Records.{record_at}
-use Rattle.dock.specs.declared.Command.TheVariants as command
+use Rattle.dock.specs.Refusals.{refusal, done}
 use Rattle.dock.specs.declared.Endpoint.{Endpoint}
 use Rattle.dock.specs.declared.Identity.{Identity}
-use Rattle.dock.specs.declared.Outcome.TheVariants as outcome
-use Rattle.dock.specs.declared.Pointed.TheVariants as pointed
-use Rattle.dock.specs.declared.Reclaimed.TheVariants as reclaimed
 use Rattle.dock.specs.declared.Request.{Request}
-use Rattle.dock.specs.declared.Resetting.TheVariants as resetting
 use Rattle.dock.specs.declared.Shape.{Shape}
-use Rattle.dock.specs.declared.Stored.TheVariants as stored
-use Rattle.dock.specs.declared.Submitted.TheVariants as submitted
-use Rattle.dock.specs.declared.Taken.TheVariants as taken
 use Rattle.dock.specs.Cancel.{cancel_tests, cancel_no, cancel, marked}
 use Rattle.dock.specs.Commands.{reset_words, stop_words, dequeue_words, stop, resume, pointer}
 use Rattle.dock.specs.Configure.{plain_tests, plain_no, configure}
@@ -62,13 +56,13 @@ module _ (ring finished records packets : List ℕ) (shape : Shape) (who : Ident
   -- A making that is refused leaves the tables, and gives back no endpoint.
   pub make_refuses : (number_of_make ≡ 0 → ⊥)
       → make ring finished records packets shape who
-      ≡ (record { answer = outcome.Refused number_of_make; endpoint = blank }, ring, finished, records, packets)
+      ≡ (record { answer = Err (refusal number_of_make); endpoint = blank }, ring, finished, records, packets)
   unfolding make
   make_refuses refused = declines _ _ refused
 
   pub make_acts : number_of_make ≡ 0
       → make ring finished records packets shape who
-      ≡ (record { answer = outcome.Done; endpoint = fresh shape who }, zeros ring, zeros finished, zeros records, zeros packets)
+      ≡ (record { answer = done; endpoint = fresh shape who }, zeros ring, zeros finished, zeros records, zeros packets)
   unfolding make
   make_acts passed = acts _ _ passed
 
@@ -80,40 +74,40 @@ module _ (e : Endpoint) where
   plain_exact = exact (plain_tests e) refl
 
   pub configure_refuses : (packet burst interval : ℕ) → (plain_no e ≡ 0 → ⊥)
-      → configure e packet burst interval ≡ record { answer = outcome.Refused (plain_no e); endpoint = e }
+      → configure e packet burst interval ≡ record { answer = Err (refusal (plain_no e)); endpoint = e }
   unfolding configure
   configure_refuses packet burst interval refused = declines _ _ refused
 
   pub configure_acts : (packet burst interval : ℕ) → plain_no e ≡ 0
       → configure e packet burst interval
       ≡ record {
-        answer = outcome.Done;
+        answer = done;
         endpoint = with_periodic e (record { packet = packet; burst = burst; interval = max 1 interval; frame = e.periodic.frame });
       }
   unfolding configure
   configure_acts packet burst interval passed = acts _ _ passed
 
-  pub stop_refuses : (plain_no e ≡ 0 → ⊥) → stop e ≡ command.Refused (plain_no e)
+  pub stop_refuses : (plain_no e ≡ 0 → ⊥) → stop e ≡ Err (refusal (plain_no e))
   unfolding stop
   stop_refuses refused = declines _ _ refused
 
-  pub stop_acts : plain_no e ≡ 0 → stop e ≡ command.Words (stop_words e)
+  pub stop_acts : plain_no e ≡ 0 → stop e ≡ Ok (stop_words e)
   unfolding stop
   stop_acts passed = acts _ _ passed
 
-  pub resume_refuses : (plain_no e ≡ 0 → ⊥) → resume e ≡ command.Refused (plain_no e)
+  pub resume_refuses : (plain_no e ≡ 0 → ⊥) → resume e ≡ Err (refusal (plain_no e))
   unfolding resume
   resume_refuses refused = declines _ _ refused
 
-  pub resume_acts : plain_no e ≡ 0 → resume e ≡ command.Words (dequeue_words e)
+  pub resume_acts : plain_no e ≡ 0 → resume e ≡ Ok (dequeue_words e)
   unfolding resume
   resume_acts passed = acts _ _ passed
 
-  pub pointer_refuses : (plain_no e ≡ 0 → ⊥) → pointer e ≡ pointed.Refused (plain_no e)
+  pub pointer_refuses : (plain_no e ≡ 0 → ⊥) → pointer e ≡ Err (refusal (plain_no e))
   unfolding pointer
   pointer_refuses refused = declines _ _ refused
 
-  pub pointer_acts : plain_no e ≡ 0 → pointer e ≡ pointed.At (enqueue_pointer e.shape.base e.at)
+  pub pointer_acts : plain_no e ≡ 0 → pointer e ≡ Ok (enqueue_pointer e.shape.base e.at)
   unfolding pointer
   pointer_acts passed = acts _ _ passed
 
@@ -121,13 +115,13 @@ module _ (e : Endpoint) where
   unfolding end_tests end_no
   end_exact = exact (end_tests e) refl
 
-  pub end_refuses : (worked : Bool) → (end_no e ≡ 0 → ⊥) → end_reset e worked ≡ record { answer = outcome.Refused (end_no e); endpoint = e }
+  pub end_refuses : (worked : Bool) → (end_no e ≡ 0 → ⊥) → end_reset e worked ≡ record { answer = Err (refusal (end_no e)); endpoint = e }
   unfolding end_reset
   end_refuses worked refused = declines _ _ refused
 
   pub end_acts : (worked : Bool) → end_no e ≡ 0
       → end_reset e worked
-      ≡ record { answer = outcome.Done; endpoint = with_flags e (record { halted = e.flags.halted && not worked; reset = false }) }
+      ≡ record { answer = done; endpoint = with_flags e (record { halted = e.flags.halted && not worked; reset = false }) }
   unfolding end_reset
   end_acts worked passed = acts _ _ passed
 
@@ -142,14 +136,14 @@ module _ (e : Endpoint) (records packets : List ℕ) (request : Request) (length
   start_exact = exact (start_tests e records (length packets) request lengths) refl
 
   pub start_refuses : (number_of_start ≡ 0 → ⊥)
-      → start e records packets request lengths ≡ (record { answer = outcome.Refused number_of_start; endpoint = e }, records, packets)
+      → start e records packets request lengths ≡ (record { answer = Err (refusal number_of_start); endpoint = e }, records, packets)
   unfolding start
   start_refuses refused = declines _ _ refused
 
   pub start_acts : number_of_start ≡ 0
       → start e records packets request lengths
       ≡ (
-        record { answer = outcome.Done; endpoint = started_endpoint e records request lengths },
+        record { answer = done; endpoint = started_endpoint e records request lengths },
         started_records e records request lengths,
         write_packets packets (record_taken e) request.what lengths,
       )
@@ -167,7 +161,7 @@ module _ (e : Endpoint) (ring finished records packets : List ℕ) where
   store_exact = exact (store_tests e (length ring) (length finished) records (length packets)) refl
 
   pub store_refuses : (number_of_store ≡ 0 → ⊥)
-      → store e ring finished records packets ≡ (record { answer = stored.Refused number_of_store; endpoint = e }, ring, finished)
+      → store e ring finished records packets ≡ (record { answer = Err (refusal number_of_store); endpoint = e }, ring, finished)
   unfolding store
   store_refuses refused = declines _ _ refused
 
@@ -217,7 +211,7 @@ module _ (e : Endpoint) (ring finished records packets : List ℕ) (request : Re
   -- Any other is answered, and leaves everything.
   pub submit_refuses : (number_of_submit ≡ 0 → ⊥)
       → submit e ring finished records packets request lengths
-      ≡ (record { answer = submitted.Refused number_of_submit; endpoint = e }, ring, finished, records, packets)
+      ≡ (record { answer = Err (refusal number_of_submit); endpoint = e }, ring, finished, records, packets)
   unfolding submit
   submit_refuses refused = declines _ _ refused
 
@@ -238,12 +232,12 @@ module _ (e : Endpoint) (finished : List ℕ) (w : Words) where
   hand_over_exact = exact (hand_over_tests e (length finished) w) refl
 
   pub hand_over_refuses : (hand_over_no e (length finished) w ≡ 0 → ⊥)
-      → hand_over e finished w ≡ (taken.Refused (hand_over_no e (length finished) w), finished)
+      → hand_over e finished w ≡ (Err (refusal (hand_over_no e (length finished) w)), finished)
   unfolding hand_over
   hand_over_refuses refused = declines _ _ refused
 
   pub hand_over_acts : hand_over_no e (length finished) w ≡ 0
-      → hand_over e finished w ≡ (taken.Place (slot_number (slot_for e w)), fill_place finished (slot_number (slot_for e w)) w)
+      → hand_over e finished w ≡ (Ok (slot_number (slot_for e w)), fill_place finished (slot_number (slot_for e w)) w)
   unfolding hand_over
   hand_over_acts passed = acts _ _ passed
 
@@ -255,12 +249,12 @@ module _ (e : Endpoint) (records : List ℕ) where
   cancel_exact id = exact (cancel_tests e records id) refl
 
   pub cancel_refuses : (id : ℕ) → (cancel_no e records id ≡ 0 → ⊥)
-      → cancel e records id ≡ (outcome.Refused (cancel_no e records id), records)
+      → cancel e records id ≡ (Err (refusal (cancel_no e records id)), records)
   unfolding cancel
   cancel_refuses id refused = declines _ _ refused
 
   pub cancel_acts : (id : ℕ) → cancel_no e records id ≡ 0
-      → cancel e records id ≡ (outcome.Done, marked records (find_in records e.account.occupancy id))
+      → cancel e records id ≡ (done, marked records (find_in records e.account.occupancy id))
   unfolding cancel
   cancel_acts id passed = acts _ _ passed
 
@@ -269,7 +263,7 @@ module _ (e : Endpoint) (records : List ℕ) where
   retire_exact = exact (record_tests e records) refl
 
   pub retire_refuses : (record_no e records ≡ 0 → ⊥)
-      → retire e records ≡ (record { answer = outcome.Refused (record_no e records); endpoint = e }, records)
+      → retire e records ≡ (record { answer = Err (refusal (record_no e records)); endpoint = e }, records)
   unfolding retire
   retire_refuses refused = declines _ _ refused
 
@@ -278,7 +272,7 @@ module _ (e : Endpoint) (records : List ℕ) where
       retire e records
       ≡ (
         record {
-          answer = outcome.Done;
+          answer = done;
           endpoint = with_account e (record { next = e.account.next; occupancy = e.account.occupancy; outstanding = s.0 });
         },
         s.1,
@@ -291,19 +285,19 @@ module _ (e : Endpoint) (records : List ℕ) where
   begin_exact = exact (begin_tests e records) refl
 
   pub begin_refuses : (begin_no e records ≡ 0 → ⊥)
-      → begin_reset e records ≡ record { answer = resetting.Refused (begin_no e records); endpoint = e }
+      → begin_reset e records ≡ record { answer = Err (refusal (begin_no e records)); endpoint = e }
   unfolding begin_reset
   begin_refuses refused = declines _ _ refused
 
   -- An endpoint that is not halted has nothing to reset; a halted one is given two commands, and a reset is under way.
-  pub begin_clear : begin_no e records ≡ 0 → e.flags.halted ≡ false → begin_reset e records ≡ record { answer = resetting.Clear; endpoint = e }
+  pub begin_clear : begin_no e records ≡ 0 → e.flags.halted ≡ false → begin_reset e records ≡ record { answer = Ok None; endpoint = e }
   unfolding begin_reset
   begin_clear passed off = acts _ _ passed ∙ pick_false _ _ off
 
   pub begin_acts : begin_no e records ≡ 0 → e.flags.halted ≡ true
       → begin_reset e records
       ≡ record {
-        answer = resetting.Commands (reset_words e) (dequeue_words e);
+        answer = Ok (Some (record { reset = (reset_words e); dequeue = (dequeue_words e) }));
         endpoint = with_flags e (record { halted = true; reset = true });
       }
   unfolding begin_reset
@@ -321,7 +315,7 @@ module _ (e : Endpoint) (finished records packets : List ℕ) (id : ℕ) where
 
   pub reclaim_refuses : (number_of_reclaim ≡ 0 → ⊥)
       → reclaim e finished records packets id
-      ≡ (record { answer = reclaimed.Refused number_of_reclaim; endpoint = e }, records, packets)
+      ≡ (record { answer = Err (refusal number_of_reclaim); endpoint = e }, records, packets)
   unfolding reclaim
   reclaim_refuses refused = declines _ _ refused
 

@@ -1,23 +1,26 @@
 -- What the tests on a request's record decide, as facts on numbers: an id that is not in flight (6), a record that a reclaim cannot use (1), requests that
 -- keep a reset waiting (2), packets that differ (9), the codes; and row 1 of the calls that are lent tables, by their sizes. Assumes nothing.
+use Rattle.std.specs.Prelude.{Option, Some, None}
 use Prim.Native.Nat.{ℕ, ◌+◌, ◌<◌, ◌≤◌}
 use mathlib.Core.Bool.{Bool, true, false, not, ◌&&◌}
 use mathlib.Core.List.{List}
 use mathlib.Core.Logic.{◌⊎◌}
 use mathlib.Core.Path.{◌≡◌, refl, sym, subst, ◌∙◌}
-use borrow.Author.Tests.{eqb-true, not-false}
+use borrow.Author.Tests.{not-false}
 use lib.Dec.{eqb}
 use Rattle.base.proofs.Decide.{Decides, if_so, if_not, by_leb, by_ltb, by_eqb, by_true, both, either, negated, reworded}
 use Rattle.mask.specs.Occupancy.{held}
 use Rattle.mask.specs.declared.Occupancy.{Occupancy}
-use Rattle.sizes.specs.Sizes.{ring_size, record_count, packet_count, packets_size, isoch}
+use Rattle.sizes.specs.Sizes.{ring_size, record_count, packet_count, packets_size}
 use Rattle.ids.specs.Free.{any, held_by, id_at}
 use Rattle.ids.specs.Lookup.{Lowest, Finds, find_in}
-use Rattle.ids.specs.declared.Lookup.{Lookup}
-use Rattle.ids.specs.declared.Lookup.TheVariants.{At, Nothing}
 use Rattle.ids.proofs.AnyLaws.{never_both, any_one, any_found, by_held}
 use Rattle.ids.proofs.LookupLaws.{find_finds, find_unique, find_computed}
-use Rattle.records.specs.Records.{in_flight, record_at}
+use Rattle.records.specs.Kinds.{isoch}
+use Rattle.records.proofs.KindLaws.{by_kind}
+use Rattle.records.specs.States.{state_is, in_flight}
+use Rattle.records.specs.Records.{record_at}
+use Rattle.records.proofs.StateLaws.{state_true, by_state}
 use Rattle.records.specs.declared.Record.{Record}
 use Rattle.records.proofs.RecordLaws.{id_is}
 use Rattle.dock.specs.declared.Endpoint.{Endpoint}
@@ -57,54 +60,54 @@ module _ (records : List ℕ) (occupancy : Occupancy) (id : ℕ) where
     lower = λ k less. if_not (by_named k) (λ h. n.lower k less h.0 h.1);
   }
 
-  pub named_found : (r : ℕ) → Named records occupancy id r → find_in records occupancy id ≡ At r
-  named_found r n = sym (find_computed record_count (held occupancy) (id_at records) id (At r) (from_named r n))
+  pub named_found : (r : ℕ) → Named records occupancy id r → find_in records occupancy id ≡ Some r
+  named_found r n = sym (find_computed record_count (held occupancy) (id_at records) id (Some r) (from_named r n))
 
-  none_by : (f : Lookup) → Finds record_count named f → ((r : ℕ) → Named records occupancy id r → ⊥) → f ≡ Nothing
-  none_by Nothing f n = refl
-  none_by (At r) f n = absurd (n r (to_named r f))
+  none_by : (f : Option ℕ) → Finds record_count named f → ((r : ℕ) → Named records occupancy id r → ⊥) → f ≡ None
+  none_by None f n = refl
+  none_by (Some r) f n = absurd (n r (to_named r f))
 
-  pub unnamed_none : ((r : ℕ) → Named records occupancy id r → ⊥) → find_in records occupancy id ≡ Nothing
+  pub unnamed_none : ((r : ℕ) → Named records occupancy id r → ⊥) → find_in records occupancy id ≡ None
   unnamed_none = none_by (find_in records occupancy id) (find_finds record_count (held occupancy) (id_at records) id)
 
   -- Some fact holds of the record that the id names: of the one that is found, and of none where none is.
   abbrev pub OfNamed : (ℕ → Type 0) → Type 0
   OfNamed P = (r : ℕ) × Named records occupancy id r × P r
 
-  by_found : {P : ℕ → Type 0} (test : Lookup → Bool) → test Nothing ≡ false → ((r : ℕ) → Decides (test (At r)) (P r))
-      → (f : Lookup) → Finds record_count named f → Decides (test f) (OfNamed P)
-  by_found test off on Nothing f = record {
+  by_found : {P : ℕ → Type 0} (test : Option ℕ → Bool) → test None ≡ false → ((r : ℕ) → Decides (test (Some r)) (P r))
+      → (f : Option ℕ) → Finds record_count named f → Decides (test f) (OfNamed P)
+  by_found test off on None f = record {
     so = λ t. absurd (never_both t off);
     not_so = λ t k. never_both (from_named k.0 k.1).here (f k.0 k.1.within);
   }
-  by_found {P} test off on (At r) f =
+  by_found {P} test off on (Some r) f =
       reworded
       (λ p. (r, to_named r f, p))
-      (λ k. let same : At k.0 ≡ At r = find_unique record_count named (At k.0) (At r) (from_named k.0 k.1) f in
+      (λ k. let same : Some k.0 ≡ Some r = find_unique record_count named (Some k.0) (Some r) (from_named k.0 k.1) f in
       let is : k.0 ≡ r = cc in
       subst P is k.2)
       (on r)
 
-  by_lookup : {P : ℕ → Type 0} (test : Lookup → Bool) → test Nothing ≡ false → ((r : ℕ) → Decides (test (At r)) (P r))
+  by_lookup : {P : ℕ → Type 0} (test : Option ℕ → Bool) → test None ≡ false → ((r : ℕ) → Decides (test (Some r)) (P r))
       → Decides (test (find_in records occupancy id)) (OfNamed P)
   by_lookup test off on = by_found test off on (find_in records occupancy id) (find_finds record_count (held occupancy) (id_at records) id)
 
-  abbrev is_flying : Lookup → Bool
-  is_flying Nothing = false
-  is_flying (At r) = eqb (record_at records r).state in_flight
+  abbrev is_flying : Option ℕ → Bool
+  is_flying None = false
+  is_flying (Some r) = state_is (record_at records r).state in_flight
 
-  by_flying : (f : Lookup) → Finds record_count named f → Decides (not_flying records f) (OfNamed (λ r. (record_at records r).state ≡ in_flight) → ⊥)
-  by_flying Nothing f = negated (by_found is_flying refl (λ r. by_eqb (record_at records r).state in_flight) Nothing f)
-  by_flying (At r) f = negated (by_found is_flying refl (λ r. by_eqb (record_at records r).state in_flight) (At r) f)
+  by_flying : (f : Option ℕ) → Finds record_count named f → Decides (not_flying records f) (OfNamed (λ r. (record_at records r).state ≡ in_flight) → ⊥)
+  by_flying None f = negated (by_found is_flying refl (λ r. by_state (record_at records r).state in_flight) None f)
+  by_flying (Some r) f = negated (by_found is_flying refl (λ r. by_state (record_at records r).state in_flight) (Some r) f)
 
   -- Row 6: "cancel of an id not in flight". The record that the id names, if there is one, is not in flight.
   pub by_not_flying : Decides (not_flying records (find_in records occupancy id)) (OfNamed (λ r. (record_at records r).state ≡ in_flight) → ⊥)
   by_not_flying = by_flying (find_in records occupancy id) (find_finds record_count (held occupancy) (id_at records) id)
 
   -- A cancel that row 6 lets pass has such a record.
-  flying_by : (f : Lookup) → Finds record_count named f → not_flying records f ≡ false → OfNamed (λ r. (record_at records r).state ≡ in_flight)
-  flying_by Nothing f t = absurd (never_both refl t)
-  flying_by (At r) f t = (r, to_named r f, eqb-true (record_at records r).state in_flight (not-false _ t))
+  flying_by : (f : Option ℕ) → Finds record_count named f → not_flying records f ≡ false → OfNamed (λ r. (record_at records r).state ≡ in_flight)
+  flying_by None f t = absurd (never_both refl t)
+  flying_by (Some r) f t = (r, to_named r f, state_true (record_at records r).state in_flight (not-false _ t))
 
   pub flying_named : not_flying records (find_in records occupancy id) ≡ false → OfNamed (λ r. (record_at records r).state ≡ in_flight)
   flying_named = flying_by (find_in records occupancy id) (find_finds record_count (held occupancy) (id_at records) id)
@@ -119,7 +122,7 @@ by_bad_record e records id =
     by_lookup records e.account.occupancy id (bad_record e records) refl
     (λ r.
     let v = record_at records r in
-    both (by_eqb v.state in_flight) (either (by_leb e.shape.slots (v.place + 1)) (both (by_eqb v.kind isoch) (by_ltb packet_count v.count))))
+    both (by_state v.state in_flight) (either (by_leb e.shape.slots (v.place + 1)) (both (by_kind v.kind isoch) (by_ltb packet_count v.count))))
 
 -- Row 2: "for reset, requests in flight or outstanding not 0".
 by_any : (n : ℕ) (test : ℕ → Bool) (P : ℕ → Type 0) → ((r : ℕ) → Decides (test r) (P r)) → Decides (any n test) ((r : ℕ) × (r < n) × P r)
@@ -136,7 +139,7 @@ unfolding occupied
 by_occupied e records =
     either
     (by_any record_count (flies records e.account.occupancy) _
-    (λ r. both (by_true (held e.account.occupancy r)) (by_eqb (record_at records r).state in_flight)))
+    (λ r. both (by_true (held e.account.occupancy r)) (by_state (record_at records r).state in_flight)))
     (negated (by_eqb e.account.outstanding 0))
 
 -- "then a reset under way (2)", of an endpoint that is halted.
@@ -148,7 +151,7 @@ by_resetting e = both (by_true e.flags.halted) (by_true e.flags.reset)
 -- Row 9: "completion of an ISO request whose packet count differs from the lengths given".
 pub by_mismatched : (v : Record) → Decides (mismatched v) ((v.kind ≡ isoch) × (v.count ≡ v.given → ⊥))
 unfolding mismatched
-by_mismatched v = both (by_eqb v.kind isoch) (negated (by_eqb v.count v.given))
+by_mismatched v = both (by_kind v.kind isoch) (negated (by_eqb v.count v.given))
 
 -- "Accepted codes for control, bulk, interrupt: 1 and 13".
 pub by_accepted : (code : ℕ) → Decides (accepted code) ((code ≡ 1) ⊎ (code ≡ 13))

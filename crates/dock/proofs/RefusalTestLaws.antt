@@ -1,5 +1,6 @@
 -- What the tests of the calls decide, as facts on numbers: the limits, the places, the rows of a submission's refusals and a store number past its
 -- request's stores. Assumes nothing.
+use Rattle.std.specs.Prelude.{Option, Some, None}
 use Prim.Native.Nat.{ℕ, zero, suc, ◌+◌, ◌-◌, ◌*◌, ◌/◌, ◌%◌, ◌^◌, ◌<◌, ◌≤◌}
 use mathlib.Core.Bool.{Bool, true, false, not, ◌&&◌, ◌||◌, false≢true}
 use mathlib.Core.List.{List, [], ◌∷◌}
@@ -11,17 +12,15 @@ use lib.ListN.{length, get_or}
 use Rattle.base.proofs.Decide.{Decides, by_leb, by_ltb, by_eqb, by_true, by_false, both, either, negated, reworded}
 use Rattle.mask.specs.Occupancy.{Tells}
 use Rattle.mask.specs.Occupancy as masks
-use Rattle.mask.specs.declared.Found.{Found}
-use Rattle.mask.specs.declared.Found.TheVariants.{At, Full}
 use Rattle.mask.specs.declared.Occupancy.{Occupancy}
 use Rattle.mask.proofs.OccupancyLaws.{lowest_tells}
 use Rattle.event.specs.Event.{event_of}
 use Rattle.trb.specs.declared.Words.{Words}
 use Rattle.ring.specs.Ring.{slot_of}
-use Rattle.ring.specs.declared.Slot.{Slot}
-use Rattle.ring.specs.declared.Slot.TheVariants as slot
 use Rattle.sizes.specs.Sizes.{fewest_slots, most_slots, alignment, boundary, trb_bytes, most_dci, most_slot_id, record_count, records_size, packet_count, packets_size, longest, longest_control}
-use Rattle.records.specs.Records.{in_flight, record_at}
+use Rattle.records.specs.States.{in_flight}
+use Rattle.records.specs.Records.{record_at}
+use Rattle.records.proofs.StateLaws.{by_state}
 use Rattle.dock.specs.declared.Endpoint.{Endpoint}
 use Rattle.dock.specs.declared.Identity.{Identity}
 use Rattle.dock.specs.declared.Shape.{Shape}
@@ -154,7 +153,7 @@ module _ (e : Endpoint) (records : List ℕ) where
       (both
       (both
       (both
-      (both (by_ltb e.work.number record_count) (both (by_true (masks.held e.account.occupancy e.work.number)) (by_eqb v.state in_flight)))
+      (both (by_ltb e.work.number record_count) (both (by_true (masks.held e.account.occupancy e.work.number)) (by_state v.state in_flight)))
       (by_leb e.work.stored (trb_count v)))
       (by_false (is_none (next_of e v))))
       (implied (by_true (deferred v)) (by_ltb (e.work.place + 1) e.shape.slots)))
@@ -238,27 +237,27 @@ module _ (incoming : Bool) (size : ℕ) (lengths : List ℕ) where
   by_too_long_isoch = either (either (by_ltb packet_count (length lengths)) (none_over lengths)) (by_ltb size (sum_of lengths))
 
 -- Row 4: "all 64 records taken".
-full_or_not : (o : Occupancy) (f : Found) → Tells o f → Decides (is_full f) ((k : ℕ) → k < record_count → masks.held o k ≡ true)
-full_or_not o (At i) a = record {
+full_or_not : (o : Occupancy) (f : Option ℕ) → Tells o f → Decides (is_full f) ((k : ℕ) → k < record_count → masks.held o k ≡ true)
+full_or_not o (Some i) a = record {
   so = λ e. absurd (false≢true e);
   not_so = λ e all. false≢true (sym a.free ∙ all i a.within);
 }
-full_or_not o Full a = record { so = λ e. a; not_so = λ e all. false≢true (sym e) }
+full_or_not o None a = record { so = λ e. a; not_so = λ e all. false≢true (sym e) }
 
 pub by_full : (o : Occupancy) → Decides (is_full (masks.lowest o)) ((k : ℕ) → k < record_count → masks.held o k ≡ true)
 by_full o = full_or_not o (masks.lowest o) (lowest_tells o)
 
 -- ---- row 11
 
-by_outside : (s : Slot) → Decides (is_outside s) (s ≡ slot.Outside)
-by_outside (slot.At i) = record { so = λ e. absurd (false≢true e); not_so = λ e k. let z : ◌≡◌ {A = ℕ} 0 1 = cc in omega arith }
-by_outside slot.Outside = record { so = λ e. refl; not_so = λ e k. false≢true (sym e) }
+by_outside : (s : Option ℕ) → Decides (is_outside s) (s ≡ None)
+by_outside (Some i) = record { so = λ e. absurd (false≢true e); not_so = λ e k. let z : ◌≡◌ {A = ℕ} 0 1 = cc in omega arith }
+by_outside None = record { so = λ e. refl; not_so = λ e k. false≢true (sym e) }
 
 -- "event not type 32, other slot or endpoint id, or address not one of the L slots."
 pub by_foreign : (e : Endpoint) (w : Words)
     → Decides (foreign e w)
     (((((event_of w).form ≡ 32 → ⊥) ⊎ ((event_of w).slot ≡ e.who.slot → ⊥)) ⊎ ((event_of w).endpoint ≡ e.who.dci → ⊥))
-    ⊎ (slot_of e.shape.base e.shape.slots (event_of w).address ≡ slot.Outside))
+    ⊎ (slot_of e.shape.base e.shape.slots (event_of w).address ≡ None))
 unfolding foreign slot_for
 by_foreign e w =
     either

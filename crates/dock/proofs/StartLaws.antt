@@ -1,5 +1,6 @@
 -- A start that is admitted takes an id that no held record has, the lowest record that is free, and as many TRBs as the request needs, at most L-2 in
 -- all; it writes that record, changes no other, and leaves position, shape, identity, settings and flags. Assumes nothing.
+use Rattle.std.specs.Prelude.{Option, Some, None}
 use Prim.Native.Nat.{ℕ, ◌+◌, ◌-◌, ◌*◌, ◌^◌, ◌<◌, ◌≤◌}
 use mathlib.Core.Bool.{true, false, ◌&&◌, false≢true}
 use mathlib.Core.List.{List}
@@ -13,8 +14,6 @@ use Rattle.base.proofs.Compare.{lt_or_le}
 use Rattle.base.proofs.Decide.{Decides, by_eqb, both}
 use Rattle.base.proofs.Lent.{put_length}
 use Rattle.mask.specs.Occupancy.{held, lowest, HeldIs, LowestFree, Tells}
-use Rattle.mask.specs.declared.Found.{Found}
-use Rattle.mask.specs.declared.Found.TheVariants.{At, Full}
 use Rattle.mask.specs.declared.Occupancy.{Occupancy}
 use Rattle.mask.proofs.OccupancyLaws.{taken_is, lowest_tells}
 use Rattle.sizes.specs.Sizes.{record_count, record_words, packets_size}
@@ -33,9 +32,9 @@ use Rattle.dock.proofs.RefusalTestLaws.{FitsWith, by_fits_with, by_crowded}
 
 -- ---- what an admitted start may count on
 
-lowest_of : (o : Occupancy) (f : Found) → Tells o f → is_full f ≡ false → LowestFree o (number_from f)
-lowest_of o (At i) a free = a
-lowest_of o Full a free = absurd (false≢true (sym free))
+lowest_of : (o : Occupancy) (f : Option ℕ) → Tells o f → is_full f ≡ false → LowestFree o (number_from f)
+lowest_of o (Some i) a free = a
+lowest_of o None a free = absurd (false≢true (sym free))
 
 module _ (e : Endpoint) (records packets : List ℕ) (request : Request) (lengths : List ℕ) where
   pub record Starting : Type 0 where

@@ -1,5 +1,6 @@
 -- A store that is admitted changes one slot of the ring, wholly, and at most one place of the finished table: a TRB's store clears the place of its
 -- slot, the link's and the first TRB's second clear nothing. Assumes nothing.
+use Rattle.std.specs.Prelude.{None}
 use Prim.Native.Nat.{ℕ, ◌+◌, ◌*◌, ◌<◌, ◌≤◌}
 use mathlib.Core.Bool.{Bool, true, false, false≢true}
 use mathlib.Core.List.{List}
@@ -14,7 +15,6 @@ use Rattle.ring.specs.Ring.{store_at}
 use Rattle.ring.proofs.RuleLaws.{store_length, store_same, store_other}
 use Rattle.finished.specs.Finished.{finished_at}
 use Rattle.records.specs.Records.{record_at}
-use Rattle.finished.specs.declared.Finished.TheVariants.{Nothing}
 use Rattle.records.specs.declared.Record.{Record}
 use Rattle.finished.proofs.FinishedLaws.{cleared, others_kept}
 use Rattle.dock.specs.declared.Endpoint.{Endpoint}
@@ -132,7 +132,7 @@ kept_other the_first e l h place differs = refl
 kept_other none e l h place differs = refl
 
 trb_clears : (n : Next) (e : Endpoint) (l : List ℕ) → 4 * slot_stored n e + 4 ≤ length l → n ≡ the_trb
-    → finished_at (finished_stored n e l) (slot_stored n e) ≡ Nothing
+    → finished_at (finished_stored n e l) (slot_stored n e) ≡ None
 unfolding slot_stored finished_stored
 trb_clears the_link e l h q = let z : ◌≡◌ {A = ℕ} 0 1 = cc in absurd (omega arith)
 trb_clears the_trb e l h q = cleared l e.at.place h
@@ -153,7 +153,7 @@ module _ (e : Endpoint) (ring finished records packets : List ℕ) (passed : sto
   finished_length = ap length finished_after ∙ kept_length (next_store e records) e finished place_room
 
   -- a TRB's store clears the place of its slot,
-  pub finished_cleared : next_store e records ≡ the_trb → finished_at (store e ring finished records packets).2 (slot_changed e records) ≡ Nothing
+  pub finished_cleared : next_store e records ≡ the_trb → finished_at (store e ring finished records packets).2 (slot_changed e records) ≡ None
   finished_cleared q =
       ap (λ l. finished_at l (slot_changed e records)) finished_after ∙ trb_clears (next_store e records) e finished place_room q
 

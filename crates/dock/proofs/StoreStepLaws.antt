@@ -1,5 +1,6 @@
 -- What an admitted store does to the endpoint: the position moves by one place, around, or not at all, a TRB is counted, the link goes out with the old
 -- cycle, a deferred TD's first TRB first with the opposite and last with the right one, and after the last store nothing is under way. Assumes nothing.
+use Rattle.std.specs.Prelude.{Ok}
 use Prim.Native.Nat.{ℕ, ◌+◌, ◌<◌}
 use mathlib.Core.Bool.{Bool, true, false, not, ◌&&◌}
 use mathlib.Core.List.{List}
@@ -117,7 +118,7 @@ module _ (e : Endpoint) (ring finished records packets : List ℕ) (passed : sto
 
   -- A store that is not the last answers its slot, and the submission goes on;
   pub store_goes_on : last_store e records packets ≡ false
-      → (store e ring finished records packets).0 ≡ record { answer = Slot (slot_changed e records); endpoint = stepped_next e records packets }
+      → (store e ring finished records packets).0 ≡ record { answer = Ok (Slot (slot_changed e records)); endpoint = stepped_next e records packets }
   unfolding settled stored_answer
   store_goes_on more = ap (λ s. s.0) (store_acts e ring finished records packets passed) ∙ rw more
 
@@ -125,7 +126,7 @@ module _ (e : Endpoint) (ring finished records packets : List ℕ) (passed : sto
   pub store_ends : last_store e records packets ≡ true
       → (store e ring finished records packets).0
       ≡ record {
-        answer = Last (slot_changed e records) (flying_record e records).id e.who.dci;
+        answer = Ok (Last (slot_changed e records) (flying_record e records).id e.who.dci);
         endpoint = rested true (stepped_next e records packets);
       }
   unfolding settled stored_answer

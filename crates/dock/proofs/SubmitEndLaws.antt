@@ -1,5 +1,6 @@
 -- A submission that is started ends: its stores, one after the other, answer its id and the doorbell word within as many stores as the request has TRBs
 -- and two more, the link and the first TRB again; nothing is under way then. Assumes nothing.
+use Rattle.std.specs.Prelude.{Ok}
 use Prim.Native.Nat.{ℕ, zero, suc, ◌+◌, ◌<◌, ◌≤◌}
 use mathlib.Core.Bool.{true, false, ◌&&◌, false≢true}
 use mathlib.Core.List.{List}
@@ -17,9 +18,9 @@ use Rattle.dock.specs.declared.Endpoint.{Endpoint}
 use Rattle.dock.specs.declared.Identity.{Identity}
 use Rattle.dock.specs.declared.Request.{Request}
 use Rattle.dock.specs.declared.Shape.{Shape}
-use Rattle.dock.specs.declared.StoredAll.{StoredAll}
-use Rattle.dock.specs.declared.StoredOne.{StoredOne}
-use Rattle.dock.specs.declared.Submitted.TheVariants as submitted
+use Rattle.dock.specs.declared.After.{After}
+use Rattle.dock.specs.declared.Submitted.{Submitted}
+use Rattle.dock.specs.declared.Stored.{Stored}
 use Rattle.dock.specs.RowOne.{Next, the_link, the_trb, the_first, none, next_of, is_none}
 use Rattle.sizes.specs.Sizes.{ring_size}
 use Rattle.dock.specs.Requests.{required}
@@ -114,8 +115,8 @@ module _ (e : Endpoint) (ring finished records packets : List ℕ) (s : Storing 
 
 -- The stores have ended: the answer is Done with the id and the dci, nothing is under way, all but the position and the next frame is kept, and so are
 -- the sizes.
-pub record Ended (e : Endpoint) (ring finished : List ℕ) (id : ℕ) (s : StoredAll × List ℕ × List ℕ) : Type 0 where
-  pub answer : s.0.answer ≡ submitted.Done id e.who.dci
+pub record Ended (e : Endpoint) (ring finished : List ℕ) (id : ℕ) (s : After Submitted × List ℕ × List ℕ) : Type 0 where
+  pub answer : s.0.answer ≡ Ok (record { id = id; bell = e.who.dci })
   pub work : s.0.endpoint.work ≡ idle
   pub kept : Kept e s.0.endpoint
   pub ring_size_lem : length s.1 ≡ length ring
@@ -137,10 +138,10 @@ module _ (fuel : ℕ) (e : Endpoint) (ring finished records packets : List ℕ) 
   abbrev next : Endpoint
   next = stepped_next e records packets
 
-  abbrev left : StoredOne × List ℕ × List ℕ
+  abbrev left : After Stored × List ℕ × List ℕ
   left = store e ring finished records packets
 
-  abbrev followed : StoredOne → StoredAll × List ℕ × List ℕ
+  abbrev followed : After Stored → After Submitted × List ℕ × List ℕ
   followed x =
       after_store x.answer x.endpoint left.1 left.2 (λ e ring finished. finish fuel e ring finished records packets)
 
@@ -163,11 +164,11 @@ module _ (fuel : ℕ) (e : Endpoint) (ring finished records packets : List ℕ) 
   ends : last_store e records packets ≡ true → Ended e ring finished (flying_record e records).id (finish (suc fuel) e ring finished records packets)
   ends last =
       let told = store_ends e ring finished records packets passed last in
-      subst (λ (x : StoredAll × List ℕ × List ℕ). Ended e ring finished (flying_record e records).id x) (sym (one_more ∙ ap followed told))
+      subst (λ (x : After Submitted × List ℕ × List ℕ). Ended e ring finished (flying_record e records).id x) (sym (one_more ∙ ap followed told))
       (record {
         answer = refl;
         work = refl;
-        kept = subst (λ (x : StoredOne). Kept e x.endpoint) told (store_keeps e ring finished records packets passed);
+        kept = subst (λ (x : After Stored). Kept e x.endpoint) told (store_keeps e ring finished records packets passed);
         ring_size_lem = ring_kept;
         finished_size = finished_kept;
       })
@@ -193,10 +194,10 @@ module _ (fuel : ℕ) (e : Endpoint) (ring finished records packets : List ℕ) 
       → Ended e ring finished (flying_record e records).id (finish (suc fuel) e ring finished records packets)
   goes_on more later =
       let told = store_goes_on e ring finished records packets passed more in
-      subst (λ (x : StoredAll × List ℕ × List ℕ). Ended e ring finished (flying_record e records).id x) (sym (one_more ∙ ap followed told))
+      subst (λ (x : After Submitted × List ℕ × List ℕ). Ended e ring finished (flying_record e records).id x) (sym (one_more ∙ ap followed told))
       (record {
-        answer = later.answer ∙ ap (λ (v : Record). submitted.Done v.id next.who.dci) same_record
-            ∙ ap (λ (x : Identity). submitted.Done (flying_record e records).id x.dci) stepped_kept.who;
+        answer = later.answer ∙ ap (λ (v : Record). Ok (record { id = v.id; bell = next.who.dci })) same_record
+            ∙ ap (λ (x : Identity). Ok (record { id = (flying_record e records).id; bell = x.dci })) stepped_kept.who;
         work = later.work;
         kept = kept_on e next (finish fuel next left.1 left.2 records packets).0.endpoint stepped_kept later.kept;
         ring_size_lem = later.ring_size_lem ∙ ring_kept;
@@ -252,7 +253,7 @@ module _ (e : Endpoint) (ring finished records packets : List ℕ) (request : Re
   fit = if_so (both (by_eqb (length ring) (ring_size e.shape.slots)) (by_eqb (length finished) (ring_size e.shape.slots))) (ring_size_lem, finished_size)
 
   -- A submission that is admitted is done: it answers the id taken and the dci, and nothing is under way afterwards.
-  pub submit_done : ((submit e ring finished records packets request lengths).0.answer ≡ submitted.Done (id_taken e records) e.who.dci)
+  pub submit_done : ((submit e ring finished records packets request lengths).0.answer ≡ Ok (record { id = (id_taken e records); bell = e.who.dci }))
       × ((submit e ring finished records packets request lengths).0.endpoint.work ≡ idle)
       × ((submit e ring finished records packets request lengths).0.endpoint.account
       ≡ charged e.account (id_taken e records) (record_taken e) (required request (length lengths)))

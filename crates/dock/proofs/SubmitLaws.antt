@@ -1,4 +1,5 @@
 -- A whole submission is a start and stores: what every start and every store keeps, it keeps (`submit_keeps`). Assumes nothing.
+use Rattle.std.specs.Prelude.{Result, Ok, Err}
 use Prim.Native.Nat.{ℕ, zero, suc}
 use mathlib.Core.List.{List}
 use lib.Dec.{eqb}
@@ -6,8 +7,10 @@ use lib.ListN.{length}
 use Rattle.dock.specs.declared.Endpoint.{Endpoint}
 use Rattle.dock.specs.declared.Request.{Request}
 use Rattle.dock.specs.declared.Stored.{Stored}
+use Rattle.dock.specs.declared.Refusal.{Refusal}
+use Rattle.dock.specs.declared.After.{After}
+use Rattle.dock.specs.declared.Submitted.{Submitted}
 use Rattle.dock.specs.declared.Stored.TheVariants as store
-use Rattle.dock.specs.declared.StoredAll.{StoredAll}
 use Rattle.dock.specs.NextStore as storing
 use Rattle.dock.specs.Submit.{submit_no, finish, most_stores, submit}
 use Rattle.dock.specs.Submit as submitting
@@ -16,12 +19,12 @@ use Rattle.dock.proofs.RetireLaws.{picked}
 
 module _ (P : State → Type 0) (stored : (s : State) → P s → P (after s stores)) where
   -- What follows a store, by its answer: the next stores, or the end.
-  by_stored : (x : Stored) (s : State) (more : Endpoint → List ℕ → List ℕ → StoredAll × List ℕ × List ℕ) → P s
+  by_stored : (x : Result Stored Refusal) (s : State) (more : Endpoint → List ℕ → List ℕ → After Submitted × List ℕ × List ℕ) → P s
       → (let m = more s.endpoint s.ring s.finished in P (state_of m.0.endpoint m.1 m.2 s.records s.packets))
       → let a = submitting.after_store x s.endpoint s.ring s.finished more in P (state_of a.0.endpoint a.1 a.2 s.records s.packets)
-  by_stored (store.Slot slot) s more h m = m
-  by_stored (store.Last slot id bell) s more h m = h
-  by_stored (store.Refused number) s more h m = h
+  by_stored (Ok (store.Slot slot)) s more h m = m
+  by_stored (Ok (store.Last slot id bell)) s more h m = h
+  by_stored (Err number) s more h m = h
 
   -- The stores that are left, in order.
   finish_keeps : (n : ℕ) (s : State) → P s
@@ -36,7 +39,7 @@ module _ (P : State → Type 0) (stored : (s : State) → P s → P (after s sto
   pub submit_keeps : (s : State) (request : Request) (lengths : List ℕ) → P s → P (after s (starts request lengths)) → P (after s (submits request lengths))
   unfolding submit
   submit_keeps s request lengths h started =
-      picked (λ (x : StoredAll × List ℕ × List ℕ × List ℕ × List ℕ). P (state_of x.0.endpoint x.1 x.2 x.3 x.4))
+      picked (λ (x : After Submitted × List ℕ × List ℕ × List ℕ × List ℕ). P (state_of x.0.endpoint x.1 x.2 x.3 x.4))
       (eqb (submit_no s.endpoint (length s.ring) (length s.finished) s.records (length s.packets) request lengths) 0) _ _
       (λ t. finish_keeps (most_stores request (length lengths)) (after s (starts request lengths)) started)
       (λ t. h)

@@ -14,12 +14,14 @@ use Rattle.mask.specs.declared.Occupancy.{Occupancy}
 use Rattle.sizes.specs.Sizes.{ring_size}
 use Rattle.dock.specs.declared.Endpoint.{Endpoint}
 use Rattle.dock.specs.declared.Request.{Request}
-use Rattle.dock.specs.declared.StoredAll.{StoredAll}
-use Rattle.dock.specs.Numbers.{submitted_number}
+use Rattle.dock.specs.declared.After.{After}
+use Rattle.dock.specs.declared.Submitted.{Submitted}
+use Rattle.dock.specs.Numbers.{Numbered, submitted_number}
 use Rattle.dock.specs.Requests.{required}
 use Rattle.dock.specs.Start.{crowded, too_long, is_full, beyond, number_from, start_no, record_taken, charged, started_endpoint}
 use Rattle.dock.specs.Submit.{submit_no, submit}
 use Rattle.dock.specs.Run.{State, submits, after, answered, Reached, next}
+use Rattle.dock.proofs.RefusalAnswerLaws.{refused_leaves}
 use Rattle.dock.proofs.RefusalLaws.{submit_as_start, submit_acts, submit_refuses}
 use Rattle.dock.proofs.RefusalRowLaws.{start_rows}
 use Rattle.dock.proofs.ReachedSoundLaws.{reached_sound}
@@ -80,7 +82,7 @@ module _ {s : State} (h : Reached s) (request : Request) (lengths : List ℕ) wh
   abbrev number : ℕ
   number = start_no e s.records (length s.packets) request lengths
 
-  abbrev whole : StoredAll × List ℕ × List ℕ × List ℕ × List ℕ
+  abbrev whole : After Submitted × List ℕ × List ℕ × List ℕ × List ℕ
   whole = submit e s.ring s.finished s.records s.packets request lengths
 
   -- The number of a start is the ledger's.
@@ -105,8 +107,8 @@ module _ {s : State} (h : Reached s) (request : Request) (lengths : List ℕ) wh
       let finished_long = (reached_sound h).finished_long in
       let acts = submit_acts e s.ring s.finished s.records s.packets request lengths (same ∙ passed) in
       let ended = start_finishes e s.ring s.finished s.records s.packets request lengths passed ring_long finished_long in (
-        ap (λ (x : StoredAll × List ℕ × List ℕ × List ℕ × List ℕ). (submitted_number x.0.answer).0) acts ∙ rw ended.answer,
-        ap (λ (x : StoredAll × List ℕ × List ℕ × List ℕ × List ℕ). ledger_of x.0.endpoint) acts
+        ap (λ (x : After Submitted × List ℕ × List ℕ × List ℕ × List ℕ). (submitted_number x.0.answer).0) acts ∙ rw ended.answer,
+        ap (λ (x : After Submitted × List ℕ × List ℕ × List ℕ × List ℕ). ledger_of x.0.endpoint) acts
             ∙ rw (ended.work, ended.kept.shape, ended.kept.who, ended.kept.account, ended.kept.flags),
       )
 
@@ -114,8 +116,8 @@ module _ {s : State} (h : Reached s) (request : Request) (lengths : List ℕ) wh
   refused : (number ≡ 0 → ⊥) → ((answered s (submits request lengths)).0 ≡ number) × (ledger_of whole.0.endpoint ≡ ledger_of e)
   refused some =
       let left = submit_refuses e s.ring s.finished s.records s.packets request lengths (λ z. some (sym same ∙ z)) in (
-        ap (λ (x : StoredAll × List ℕ × List ℕ × List ℕ × List ℕ). (submitted_number x.0.answer).0) left ∙ same,
-        ap (λ (x : StoredAll × List ℕ × List ℕ × List ℕ × List ℕ). ledger_of x.0.endpoint) left,
+        ap (λ (x : Numbered). x.0) (refused_leaves s (submits request lengths) (λ z. some (sym same ∙ z))).0 ∙ same,
+        ap (λ (x : After Submitted × List ℕ × List ℕ × List ℕ × List ℕ). ledger_of x.0.endpoint) left,
       )
 
   -- So a submission gets the ledger's number, and leaves the ledger that is computed.

@@ -9,7 +9,8 @@ use borrow.Author.Tests.{eq-eqb}
 use Rattle.base.proofs.Decide.{Decides, by_eqb, if_not}
 use Rattle.ring.specs.Ring.{onward, around, link_trb}
 use Rattle.ring.specs.declared.Position.{Position}
-use Rattle.sizes.specs.Sizes.{control, isoch}
+use Rattle.records.specs.Kinds.{control, isoch}
+use Rattle.records.proofs.KindLaws.{eq_kind, by_kind, kinds_apart}
 use Rattle.records.specs.declared.Record.{Record}
 use Rattle.dock.specs.declared.Endpoint.{Endpoint}
 use Rattle.dock.specs.declared.Shape.{Shape}
@@ -22,12 +23,12 @@ use Rattle.dock.proofs.StoreStepLaws.{step_keeps}
 -- A control request's TD, and no other, is deferred.
 pub by_deferred : (v : Record) → Decides (deferred v) (v.kind ≡ control)
 unfolding deferred
-by_deferred v = by_eqb v.kind control
+by_deferred v = by_kind v.kind control
 
 -- Its first TRB is the setup,
 pub first_setup : (e : Endpoint) (v : Record) (packets : List ℕ) → deferred v ≡ true → first_trb e v packets ≡ setup_trb v
 unfolding trb_of
-first_setup e v packets late = rw (eq-eqb v.kind control ((by_deferred v).so late))
+first_setup e v packets late = rw (eq_kind v.kind control ((by_deferred v).so late))
 
 -- so that it goes by the record alone.
 pub first_same : (a b : Endpoint) (v : Record) (packets others : List ℕ) → deferred v ≡ true → first_trb a v packets ≡ first_trb b v others
@@ -58,7 +59,7 @@ link_kept n e v packets =
 -- ---- an ISO request: each of its packets is a TD of its own
 
 pub isoch_early : (v : Record) → v.kind ≡ isoch → deferred v ≡ false
-isoch_early v kind = if_not (by_deferred v) (λ (q : v.kind ≡ control). omega (arith, kind))
+isoch_early v kind = if_not (by_deferred v) (λ (q : v.kind ≡ control). kinds_apart v.kind control isoch refl q kind)
 
 pub isoch_unchained : (e : Endpoint) (v : Record) → v.kind ≡ isoch → chained e v ≡ false
 isoch_unchained e v kind = unchained e v

@@ -19,5 +19,6 @@ pub mod Retire
 pub mod Reset
 pub mod Commands
 pub mod Numbers
+pub mod Refusals
 pub mod Run
 pub mod Tests

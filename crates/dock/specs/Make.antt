@@ -1,9 +1,9 @@
 -- Making a ring. Document 01: "Making knows only 13, then 1." "Making zeroes the ring, empties all tables".
-use Rattle.std.specs.Prelude.{ℕ, Bool, not, ◌&&◌, List, [], ◌∷◌, eqb, length, replicate}
+use Rattle.std.specs.Prelude.{ℕ, Bool, not, ◌&&◌, List, [], ◌∷◌, eqb, length, replicate, ⊤, Err}
 use Rattle.base.specs.First.{pick, first}
-use Rattle.dock.specs.declared.Changed.{Changed}
+use Rattle.dock.specs.declared.After.{After}
+use Rattle.dock.specs.Refusals.{refusal, done}
 use Rattle.dock.specs.declared.Identity.{Identity}
-use Rattle.dock.specs.declared.Outcome.TheVariants.{Done, Refused}
 use Rattle.dock.specs.declared.Shape.{Shape}
 use Rattle.sizes.specs.Sizes.{ring_size, records_size, packets_size}
 use Rattle.dock.specs.Limits.{limits_hold}
@@ -27,9 +27,9 @@ make_no ring finished records packets shape who = first (make_tests ring finishe
 abbrev pub zeros : List ℕ → List ℕ
 zeros l = replicate (length l) 0
 
-unfoldable pub make : List ℕ → List ℕ → List ℕ → List ℕ → Shape → Identity → Changed × List ℕ × List ℕ × List ℕ × List ℕ
+unfoldable pub make : List ℕ → List ℕ → List ℕ → List ℕ → Shape → Identity → After ⊤ × List ℕ × List ℕ × List ℕ × List ℕ
 make ring finished records packets shape who =
     let no = make_no (length ring) (length finished) (length records) (length packets) shape who in
     pick (eqb no 0)
-    (record { answer = Done; endpoint = fresh shape who }, zeros ring, zeros finished, zeros records, zeros packets)
-    (record { answer = Refused no; endpoint = blank }, ring, finished, records, packets)
+    (record { answer = done; endpoint = fresh shape who }, zeros ring, zeros finished, zeros records, zeros packets)
+    (record { answer = Err (refusal no); endpoint = blank }, ring, finished, records, packets)

@@ -1,18 +1,21 @@
 -- The next store of a submission: "each changing one slot only". "The last store answers the id and doorbell word (the dci)."
-use Rattle.std.specs.Prelude.{ℕ, ◌+◌, ◌%◌, ◌^◌, Bool, true, not, ◌&&◌, List, [], ◌∷◌, eqb, length}
+use Rattle.std.specs.Prelude.{ℕ, ◌+◌, ◌%◌, ◌^◌, Bool, true, not, ◌&&◌, List, [], ◌∷◌, eqb, length, Result, Ok, Err}
 use Rattle.base.specs.First.{pick, first}
 use Rattle.ring.specs.Ring.{cycle_by, position_by, ring_by}
 use Rattle.ring.specs.declared.Manner.{Manner}
 use Rattle.ring.specs.declared.Manner.TheVariants.{Onward, Around, Again}
 use Rattle.ring.specs.declared.Position.{Position}
 use Rattle.finished.specs.Finished.{clear_place}
-use Rattle.sizes.specs.Sizes.{ring_size, packets_size, isoch}
+use Rattle.sizes.specs.Sizes.{ring_size, packets_size}
+use Rattle.records.specs.Kinds.{kind_is, isoch}
 use Rattle.records.specs.Records.{record_at}
 use Rattle.records.specs.declared.Record.{Record}
 use Rattle.dock.specs.declared.Endpoint.{Endpoint}
 use Rattle.dock.specs.declared.Stored.{Stored}
-use Rattle.dock.specs.declared.Stored.TheVariants.{Slot, Last, Refused}
-use Rattle.dock.specs.declared.StoredOne.{StoredOne}
+use Rattle.dock.specs.declared.Refusal.{Refusal}
+use Rattle.dock.specs.declared.After.{After}
+use Rattle.dock.specs.declared.Stored.TheVariants.{Slot, Last}
+use Rattle.dock.specs.Refusals.{refusal}
 use Rattle.dock.specs.declared.Work.{Work}
 use Rattle.dock.specs.RowOne.{fits_with, Next, the_link, the_trb, the_first, none, next_of, is_none}
 use Rattle.dock.specs.State.{idle, with_store}
@@ -36,10 +39,10 @@ with_stored w stored address =
 -- which an ISO packet moves on by its length, modulo 2^64. Document 02: "An empty packet's address is taken modulo 2^64."
 abbrev pub run_on : Endpoint → Record → List ℕ → ℕ
 run_on e v packets =
-    pick (eqb v.kind isoch) ((e.work.address + packet_size e packets e.work.stored) % 2 ^ 64) e.work.address
+    pick (kind_is v.kind isoch) ((e.work.address + packet_size e packets e.work.stored) % 2 ^ 64) e.work.address
 
 abbrev pub frame_on : Endpoint → Record → ℕ
-frame_on e v = pick (eqb v.kind isoch) (frame_after e.periodic.frame e.periodic.interval) e.periodic.frame
+frame_on e v = pick (kind_is v.kind isoch) (frame_after e.periodic.frame e.periodic.interval) e.periodic.frame
 
 -- How the next TRB is stored: the first TRB of a deferred TD goes out with the opposite cycle, the rest as usual.
 abbrev pub manner_of : Endpoint → Record → Manner
@@ -85,11 +88,11 @@ finished_stored none e finished = finished
 unfoldable pub settled : Endpoint → Record → Endpoint
 settled e v = pick (is_none (next_of e v)) (with_store e e.at e.periodic.frame idle) e
 
-unfoldable pub stored_answer : Next → Endpoint → Endpoint → Record → Stored
+unfoldable pub stored_answer : Next → Endpoint → Endpoint → Record → Result Stored Refusal
 stored_answer n before after v =
-    pick (is_none (next_of after v)) (Last (slot_stored n before) v.id before.who.dci) (Slot (slot_stored n before))
+    pick (is_none (next_of after v)) (Ok (Last (slot_stored n before) v.id before.who.dci)) (Ok (Slot (slot_stored n before)))
 
-unfoldable pub store : Endpoint → List ℕ → List ℕ → List ℕ → List ℕ → StoredOne × List ℕ × List ℕ
+unfoldable pub store : Endpoint → List ℕ → List ℕ → List ℕ → List ℕ → After Stored × List ℕ × List ℕ
 store e ring finished records packets =
     let no = store_no e (length ring) (length finished) records (length packets) in
     let v = record_at records e.work.number in
@@ -99,4 +102,4 @@ store e ring finished records packets =
       ring_stored n e v packets ring,
       finished_stored n e finished,
     )
-    (record { answer = Refused no; endpoint = e }, ring, finished)
+    (record { answer = Err (refusal no); endpoint = e }, ring, finished)

@@ -1,19 +1,20 @@
 -- A request: what it asks for, how many TRBs it takes, and the record that is kept of it.
-use Rattle.std.specs.Prelude.{ℕ, ◌+◌, ◌*◌, ◌^◌, max, Bool, false, eqb}
+use Rattle.std.specs.Prelude.{ℕ, ◌+◌, ◌*◌, ◌^◌, max, Bool, false, Some, eqb}
 use Rattle.base.specs.First.{pick}
 use Rattle.base.specs.Fields.{bits}
-use Rattle.sizes.specs.Sizes.{control, bulk, interrupt, isoch}
-use Rattle.records.specs.Records.{in_flight}
+use Rattle.records.specs.States.{in_flight}
+use Rattle.records.specs.declared.Kind.{Kind}
+use Rattle.records.specs.declared.Kind.TheVariants as kinds
 use Rattle.records.specs.declared.Record.{Record}
 use Rattle.dock.specs.declared.Request.{Request}
 use Rattle.dock.specs.declared.What.{What}
 use Rattle.dock.specs.declared.What.TheVariants.{Control, Bulk, Interrupt, Isoch}
 
-abbrev pub kind_of : What → ℕ
-kind_of (Control type request value index) = control
-kind_of (Bulk incoming) = bulk
-kind_of (Interrupt incoming) = interrupt
-kind_of (Isoch incoming) = isoch
+abbrev pub kind_of : What → Kind
+kind_of (Control type request value index) = kinds.Control
+kind_of (Bulk incoming) = kinds.Bulk
+kind_of (Interrupt incoming) = kinds.Interrupt
+kind_of (Isoch incoming) = kinds.Isoch
 
 -- "request type (bit 7 is in)."
 abbrev pub incoming_of : What → Bool
@@ -60,7 +61,7 @@ abbrev pub record_for : Request → ℕ → ℕ → ℕ → Record
 record_for request count id place =
     record {
       id = id;
-      kind = kind_of request.what;
+      kind = Some (kind_of request.what);
       incoming = incoming_of request.what;
       state = in_flight;
       cancelled = false;

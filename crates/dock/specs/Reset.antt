@@ -1,13 +1,12 @@
 -- Reset, as a begin that returns two command TRBs and an end told whether they worked. Document 01, "What must change shape".
-use Rattle.std.specs.Prelude.{ℕ, Bool, true, false, not, ◌&&◌, ◌||◌, List, [], ◌∷◌, eqb}
+use Rattle.std.specs.Prelude.{ℕ, Bool, true, false, not, ◌&&◌, ◌||◌, List, [], ◌∷◌, eqb, Option, Ok, Some, None, Err, ⊤}
 use Rattle.base.specs.First.{pick, first}
 use Rattle.sizes.specs.Sizes.{record_count}
 use Rattle.ids.specs.Free.{any}
-use Rattle.dock.specs.declared.Changed.{Changed}
+use Rattle.dock.specs.declared.After.{After}
+use Rattle.dock.specs.declared.ResetCommands.{ResetCommands}
+use Rattle.dock.specs.Refusals.{refusal, done}
 use Rattle.dock.specs.declared.Endpoint.{Endpoint}
-use Rattle.dock.specs.declared.Outcome.TheVariants.{Done, Refused}
-use Rattle.dock.specs.declared.Resetting.TheVariants as resetting
-use Rattle.dock.specs.declared.ResetBegun.{ResetBegun}
 use Rattle.dock.specs.RowOne.{fits, flies, fits_with}
 use Rattle.dock.specs.State.{with_flags}
 use Rattle.dock.specs.Commands.{reset_words, dequeue_words}
@@ -28,16 +27,16 @@ begin_tests e records =
 unfoldable pub begin_no : Endpoint → List ℕ → ℕ
 begin_no e records = first (begin_tests e records)
 
-unfoldable pub begin_reset : Endpoint → List ℕ → ResetBegun
+unfoldable pub begin_reset : Endpoint → List ℕ → After (Option ResetCommands)
 begin_reset e records =
     pick (eqb (begin_no e records) 0)
     (pick e.flags.halted
     (record {
-      answer = resetting.Commands (reset_words e) (dequeue_words e);
+      answer = Ok (Some (record { reset = (reset_words e); dequeue = (dequeue_words e) }));
       endpoint = with_flags e (record { halted = true; reset = true });
     })
-    (record { answer = resetting.Clear; endpoint = e }))
-    (record { answer = resetting.Refused (begin_no e records); endpoint = e })
+    (record { answer = Ok None; endpoint = e }))
+    (record { answer = Err (refusal (begin_no e records)); endpoint = e })
 
 -- Row 10: "an end of reset with none under way".
 unfoldable pub end_tests : Endpoint → List (Bool × ℕ)
@@ -47,8 +46,8 @@ unfoldable pub end_no : Endpoint → ℕ
 end_no e = first (end_tests e)
 
 -- "An end always clears the reset, and halted if it worked."
-unfoldable pub end_reset : Endpoint → Bool → Changed
+unfoldable pub end_reset : Endpoint → Bool → After ⊤
 end_reset e worked =
     pick (eqb (end_no e) 0)
-    (record { answer = Done; endpoint = with_flags e (record { halted = e.flags.halted && not worked; reset = false }) })
-    (record { answer = Refused (end_no e); endpoint = e })
+    (record { answer = done; endpoint = with_flags e (record { halted = e.flags.halted && not worked; reset = false }) })
+    (record { answer = Err (refusal (end_no e)); endpoint = e })

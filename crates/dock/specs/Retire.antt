@@ -1,12 +1,13 @@
 -- Retiring all requests after a stop (`retire_all_after_stop`): every request in flight becomes stopped, and its TRBs leave outstanding.
-use Rattle.std.specs.Prelude.{ℕ, zero, suc, ◌-◌, Bool, not, List, [], ◌∷◌, eqb}
+use Rattle.std.specs.Prelude.{ℕ, zero, suc, ◌-◌, Bool, not, List, [], ◌∷◌, eqb, ⊤, Err}
 use Rattle.base.specs.First.{pick, first}
 use Rattle.mask.specs.declared.Occupancy.{Occupancy}
 use Rattle.sizes.specs.Sizes.{record_count}
-use Rattle.records.specs.Records.{state_word, stopped, record_at, set_word}
-use Rattle.dock.specs.declared.Changed.{Changed}
+use Rattle.records.specs.States.{word_of_state, stopped}
+use Rattle.records.specs.Records.{state_word, record_at, set_word}
+use Rattle.dock.specs.declared.After.{After}
+use Rattle.dock.specs.Refusals.{refusal, done}
 use Rattle.dock.specs.declared.Endpoint.{Endpoint}
-use Rattle.dock.specs.declared.Outcome.TheVariants.{Done, Refused}
 use Rattle.dock.specs.RowOne.{flies, fits_with}
 use Rattle.dock.specs.State.{with_account}
 
@@ -22,16 +23,16 @@ unfoldable pub retired_below : ℕ → Occupancy → ℕ → List ℕ → ℕ ×
 retired_below zero occupancy outstanding records = (outstanding, records)
 retired_below (suc r) occupancy outstanding records =
     let s = retired_below r occupancy outstanding records in
-    pick (flies s.1 occupancy r) (s.0 - (record_at s.1 r).count, set_word s.1 r state_word stopped) s
+    pick (flies s.1 occupancy r) (s.0 - (record_at s.1 r).count, set_word s.1 r state_word (word_of_state stopped)) s
 
-unfoldable pub retire : Endpoint → List ℕ → Changed × List ℕ
+unfoldable pub retire : Endpoint → List ℕ → After ⊤ × List ℕ
 retire e records =
     let s = retired_below record_count e.account.occupancy e.account.outstanding records in
     pick (eqb (record_no e records) 0) (
       record {
-        answer = Done;
+        answer = done;
         endpoint = with_account e (record { next = e.account.next; occupancy = e.account.occupancy; outstanding = s.0 });
       },
       s.1,
     )
-    (record { answer = Refused (record_no e records); endpoint = e }, records)
+    (record { answer = Err (refusal (record_no e records)); endpoint = e }, records)

@@ -4,7 +4,8 @@ use Rattle.base.specs.First.{pick}
 use Rattle.mask.specs.Occupancy.{held}
 use Rattle.mask.specs.declared.Occupancy.{Occupancy}
 use Rattle.sizes.specs.Sizes.{record_count, records_size}
-use Rattle.records.specs.Records.{in_flight, record_at}
+use Rattle.records.specs.States.{state_is, in_flight}
+use Rattle.records.specs.Records.{record_at}
 use Rattle.records.specs.declared.Record.{Record}
 use Rattle.dock.specs.declared.Endpoint.{Endpoint}
 use Rattle.dock.specs.Limits.{limits_hold}
@@ -45,7 +46,7 @@ is_none none = true
 
 -- A record is held and in flight.
 abbrev pub flies : List ℕ → Occupancy → ℕ → Bool
-flies records occupancy r = held occupancy r && eqb (record_at records r).state in_flight
+flies records occupancy r = held occupancy r && state_is (record_at records r).state in_flight
 
 -- The place of a submission's first TRB is a place as well: it is at most L-2 where a later store reads it, in a deferred TD.
 abbrev pub first_fits : Endpoint → Record → Bool

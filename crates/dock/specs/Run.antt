@@ -1,11 +1,11 @@
 -- A run of a dock as data: its state, the calls of document 01 with their arguments, what each call leaves and answers, and the states that are reached from
 -- making by any calls, refused or not.
-use Rattle.std.specs.Prelude.{ℕ, Bool, List, ◌≡◌}
+use Rattle.std.specs.Prelude.{ℕ, Bool, List, ◌≡◌, ⊤}
 use Rattle.trb.specs.declared.Words.{Words}
-use Rattle.dock.specs.declared.Changed.{Changed}
+use Rattle.dock.specs.declared.After.{After}
+use Rattle.dock.specs.Refusals.{done}
 use Rattle.dock.specs.declared.Endpoint.{Endpoint}
 use Rattle.dock.specs.declared.Identity.{Identity}
-use Rattle.dock.specs.declared.Outcome.TheVariants.{Done}
 use Rattle.dock.specs.declared.Request.{Request}
 use Rattle.dock.specs.declared.Shape.{Shape}
 use Rattle.dock.specs.Make.{make}
@@ -38,13 +38,13 @@ state_of e ring finished records packets =
 -- ---- making
 
 -- The state of what making gives back.
-abbrev pub made_of : Changed × List ℕ × List ℕ × List ℕ × List ℕ → State
+abbrev pub made_of : After ⊤ × List ℕ × List ℕ × List ℕ × List ℕ → State
 made_of m = state_of m.0.endpoint m.1 m.2 m.3 m.4
 
 -- A state that a making leaves which is done.
 pub data Made : State → Type 0 where
   making : (ring finished records packets : List ℕ) (shape : Shape) (who : Identity)
-      → (make ring finished records packets shape who).0.answer ≡ Done
+      → (make ring finished records packets shape who).0.answer ≡ done
       → Made (made_of (make ring finished records packets shape who))
 
 -- ---- the calls

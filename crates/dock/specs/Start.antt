@@ -1,19 +1,17 @@
 -- "The start of a submission stores no TRB; it takes id, record and count, and writes the record's packets anew, unmarked."
-use Rattle.std.specs.Prelude.{ℕ, ◌+◌, ◌-◌, ◌*◌, Bool, true, false, not, ◌&&◌, ◌||◌, List, [], ◌∷◌, eqb, ltb, length}
+use Rattle.std.specs.Prelude.{ℕ, ◌+◌, ◌-◌, ◌*◌, Bool, true, false, not, ◌&&◌, ◌||◌, List, [], ◌∷◌, eqb, ltb, length, Option, Some, None, ⊤, Err}
 use Rattle.std.proofs.Math.Seq.{paste}
 use Rattle.base.specs.First.{pick, first}
 use Rattle.base.specs.Part.{put}
 use Rattle.mask.specs.Occupancy as masks
-use Rattle.mask.specs.declared.Found.{Found}
-use Rattle.mask.specs.declared.Found.TheVariants.{At, Full}
 use Rattle.sizes.specs.Sizes.{capacity, record_words, packet_count, packets_size, longest, longest_control}
 use Rattle.ids.specs.Free.{free_in}
 use Rattle.ids.specs.Order.{after_id}
 use Rattle.records.specs.Records.{record_list}
 use Rattle.dock.specs.declared.Account.{Account}
-use Rattle.dock.specs.declared.Changed.{Changed}
+use Rattle.dock.specs.declared.After.{After}
+use Rattle.dock.specs.Refusals.{refusal, done}
 use Rattle.dock.specs.declared.Endpoint.{Endpoint}
-use Rattle.dock.specs.declared.Outcome.TheVariants.{Done, Refused}
 use Rattle.dock.specs.declared.Request.{Request}
 use Rattle.dock.specs.declared.What.{What}
 use Rattle.dock.specs.declared.What.TheVariants.{Control, Bulk, Interrupt, Isoch}
@@ -45,9 +43,9 @@ too_long (Interrupt incoming) size lengths = ltb longest size
 too_long (Isoch incoming) size lengths = ltb packet_count (length lengths) || some_over lengths || ltb size (sum_of lengths)
 
 -- Row 4: "all 64 records taken".
-abbrev pub is_full : Found → Bool
-is_full (At i) = false
-is_full Full = true
+abbrev pub is_full : Option ℕ → Bool
+is_full (Some i) = false
+is_full None = true
 
 -- Row 5, document 02: "Answer 5 is now given exactly when length is above 0 and address + length - 1 exceeds the mask, the sum exact."
 unfoldable pub beyond : ℕ → ℕ → ℕ → Bool
@@ -71,9 +69,9 @@ start_no e records packets request lengths = first (start_tests e records packet
 -- ---- what is taken
 
 -- "the lowest clear bit is taken."
-abbrev pub number_from : Found → ℕ
-number_from (At i) = i
-number_from Full = 0
+abbrev pub number_from : Option ℕ → ℕ
+number_from (Some i) = i
+number_from None = 0
 
 unfoldable pub record_taken : Endpoint → ℕ
 record_taken e = number_from (masks.lowest e.account.occupancy)
@@ -115,12 +113,12 @@ started_records e records request lengths =
 
 -- ---- the call
 
-unfoldable pub start : Endpoint → List ℕ → List ℕ → Request → List ℕ → Changed × List ℕ × List ℕ
+unfoldable pub start : Endpoint → List ℕ → List ℕ → Request → List ℕ → After ⊤ × List ℕ × List ℕ
 start e records packets request lengths =
     let no = start_no e records (length packets) request lengths in
     pick (eqb no 0) (
-      record { answer = Done; endpoint = started_endpoint e records request lengths },
+      record { answer = done; endpoint = started_endpoint e records request lengths },
       started_records e records request lengths,
       write_packets packets (record_taken e) request.what lengths,
     )
-    (record { answer = Refused no; endpoint = e }, records, packets)
+    (record { answer = Err (refusal no); endpoint = e }, records, packets)

@@ -1,13 +1,15 @@
 -- The whole submission: the start, and its stores in order.
-use Rattle.std.specs.Prelude.{ℕ, zero, suc, ◌+◌, Bool, not, ◌&&◌, List, ◌∷◌, eqb, length}
+use Rattle.std.specs.Prelude.{ℕ, zero, suc, ◌+◌, Bool, not, ◌&&◌, List, ◌∷◌, eqb, length, Result, Ok, Err}
 use Rattle.base.specs.First.{pick, first}
 use Rattle.sizes.specs.Sizes.{ring_size}
 use Rattle.dock.specs.declared.Endpoint.{Endpoint}
 use Rattle.dock.specs.declared.Request.{Request}
 use Rattle.dock.specs.declared.Stored.{Stored}
+use Rattle.dock.specs.declared.Refusal.{Refusal}
+use Rattle.dock.specs.declared.After.{After}
+use Rattle.dock.specs.declared.Submitted.{Submitted}
 use Rattle.dock.specs.declared.Stored.TheVariants as stored
-use Rattle.dock.specs.declared.StoredAll.{StoredAll}
-use Rattle.dock.specs.declared.Submitted.TheVariants as submitted
+use Rattle.dock.specs.Refusals.{refusal}
 use Rattle.dock.specs.Requests.{required}
 use Rattle.dock.specs.Start.{start_tests, start}
 use Rattle.dock.specs.NextStore.{store}
@@ -26,14 +28,14 @@ submit_no e ring finished records packets request lengths = first (submit_tests 
 -- ---- the stores
 
 -- What follows a store: the next ones, until the last has answered.
-abbrev pub after_store : Stored → Endpoint → List ℕ → List ℕ → (Endpoint → List ℕ → List ℕ → StoredAll × List ℕ × List ℕ) → StoredAll × List ℕ × List ℕ
-after_store (stored.Slot slot) e ring finished more = more e ring finished
-after_store (stored.Last slot id bell) e ring finished more = (record { answer = submitted.Done id bell; endpoint = e }, ring, finished)
-after_store (stored.Refused row) e ring finished more = (record { answer = submitted.Refused row; endpoint = e }, ring, finished)
+abbrev pub after_store : Result Stored Refusal → Endpoint → List ℕ → List ℕ → (Endpoint → List ℕ → List ℕ → After Submitted × List ℕ × List ℕ) → After Submitted × List ℕ × List ℕ
+after_store (Ok (stored.Slot slot)) e ring finished more = more e ring finished
+after_store (Ok (stored.Last slot id bell)) e ring finished more = (record { answer = Ok (record { id = id; bell = bell }); endpoint = e }, ring, finished)
+after_store (Err row) e ring finished more = (record { answer = Err row; endpoint = e }, ring, finished)
 
 -- The stores that are left, in order, at most so many.
-unfoldable pub finish : ℕ → Endpoint → List ℕ → List ℕ → List ℕ → List ℕ → StoredAll × List ℕ × List ℕ
-finish zero e ring finished records packets = (record { answer = submitted.Refused 1; endpoint = e }, ring, finished)
+unfoldable pub finish : ℕ → Endpoint → List ℕ → List ℕ → List ℕ → List ℕ → After Submitted × List ℕ × List ℕ
+finish zero e ring finished records packets = (record { answer = Err (refusal 1); endpoint = e }, ring, finished)
 finish (suc n) e ring finished records packets =
     let s = store e ring finished records packets in
     after_store s.0.answer s.0.endpoint s.1 s.2 (λ e ring finished. finish n e ring finished records packets)
@@ -43,15 +45,15 @@ abbrev pub most_stores : Request → ℕ → ℕ
 most_stores request count = required request count + 2
 
 -- All tables, as the whole submission leaves them.
-abbrev pub joined : StoredAll × List ℕ × List ℕ → List ℕ → List ℕ → StoredAll × List ℕ × List ℕ × List ℕ × List ℕ
+abbrev pub joined : After Submitted × List ℕ × List ℕ → List ℕ → List ℕ → After Submitted × List ℕ × List ℕ × List ℕ × List ℕ
 joined s records packets = (s.0, s.1, s.2, records, packets)
 
 -- ---- the call
 
-unfoldable pub submit : Endpoint → List ℕ → List ℕ → List ℕ → List ℕ → Request → List ℕ → StoredAll × List ℕ × List ℕ × List ℕ × List ℕ
+unfoldable pub submit : Endpoint → List ℕ → List ℕ → List ℕ → List ℕ → Request → List ℕ → After Submitted × List ℕ × List ℕ × List ℕ × List ℕ
 submit e ring finished records packets request lengths =
     let no = submit_no e (length ring) (length finished) records (length packets) request lengths in
     let s = start e records packets request lengths in
     pick (eqb no 0)
     (joined (finish (most_stores request (length lengths)) s.0.endpoint ring finished s.1 s.2) s.1 s.2)
-    (record { answer = submitted.Refused no; endpoint = e }, ring, finished, records, packets)
+    (record { answer = Err (refusal no); endpoint = e }, ring, finished, records, packets)

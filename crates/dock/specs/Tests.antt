@@ -1,19 +1,17 @@
 -- What every call answers, by document 01's rows: its tests in order, the number beside the first that holds, 0 where none does; and the values, by the
 -- definitions' own parts.
 -- `answered_is` (proofs/AnsweredLaws) says that it is what the call answers.
-use Rattle.std.specs.Prelude.{ℕ, Bool, true, false, not, ◌&&◌, ◌||◌, List, [], ◌∷◌, ◌++◌, eqb, ltb, length}
+use Rattle.std.specs.Prelude.{ℕ, Bool, true, false, not, ◌&&◌, ◌||◌, List, [], ◌∷◌, ◌++◌, eqb, ltb, length, Option, Some, None}
+use Rattle.trb.specs.declared.Words.{Words}
 use Rattle.base.specs.Fields.{flag}
 use Rattle.base.specs.First.{pick, first}
-use Rattle.sizes.specs.Sizes.{control, bulk, interrupt, isoch}
 use Rattle.ids.specs.Lookup.{find_in}
-use Rattle.ids.specs.declared.Lookup.{Lookup}
-use Rattle.ids.specs.declared.Lookup.TheVariants.{At, Nothing}
 use Rattle.ring.specs.Ring.{slot_address}
 use Rattle.trb.specs.Layouts.{listed}
 use Rattle.finished.specs.Finished.{finished_at}
-use Rattle.finished.specs.declared.Finished.{Finished}
-use Rattle.finished.specs.declared.Finished.TheVariants as place
-use Rattle.records.specs.Records.{in_flight, stopped, record_at}
+use Rattle.records.specs.Kinds.{kind_is, control, bulk, interrupt, isoch}
+use Rattle.records.specs.States.{state_is, in_flight, stopped}
+use Rattle.records.specs.Records.{record_at}
 use Rattle.records.specs.declared.Record.{Record}
 use Rattle.dock.specs.Configure.{plain_tests}
 use Rattle.dock.specs.RowOne.{next_of, is_none}
@@ -38,18 +36,18 @@ pub data Ending : Type 0 where
   ended_by : (code : ℕ) (fails : Bool) (size : ℕ) → Ending
 
 -- A last event ends the request, whatever its code;
-abbrev pub bulk_ending : Finished → Record → Ending
-bulk_ending place.Nothing v = going
-bulk_ending (place.Event w) v = ended_by (code_of w) (not (accepted (code_of w))) (moved_bytes v.length (remaining_of w))
+abbrev pub bulk_ending : Option Words → Record → Ending
+bulk_ending None v = going
+bulk_ending (Some w) v = ended_by (code_of w) (not (accepted (code_of w))) (moved_bytes v.length (remaining_of w))
 
-abbrev pub status_ending : Finished → ℕ → Ending
-status_ending place.Nothing size = going
-status_ending (place.Event w) size = ended_by (code_of w) (not (accepted (code_of w))) size
+abbrev pub status_ending : Option Words → ℕ → Ending
+status_ending None size = going
+status_ending (Some w) size = ended_by (code_of w) (not (accepted (code_of w))) size
 
 -- that of an earlier stage only where its code is refused;
-abbrev pub stage_ending : Finished → Ending → Ending
-stage_ending place.Nothing more = more
-stage_ending (place.Event w) more = pick (accepted (code_of w)) more (ended_by (code_of w) true 0)
+abbrev pub stage_ending : Option Words → Ending → Ending
+stage_ending None more = more
+stage_ending (Some w) more = pick (accepted (code_of w)) more (ended_by (code_of w) true 0)
 
 -- and of an ISO request the walk over its packets says it.
 abbrev pub swept_ending : Swept → ℕ → Ending
@@ -61,11 +59,11 @@ unfoldable pub ending_of : State → Record → ℕ → Ending
 ending_of s v number =
     let seen = data_seen s.endpoint s.finished v in
     let swept = sweep s.endpoint.shape.slots s.finished v number v.count 0 s.packets in
-    pick (eqb v.kind control)
+    pick (kind_is v.kind control)
     (stage_ending (finished_at s.finished v.place)
     (stage_ending seen (status_ending (finished_at s.finished (status_place s.endpoint v)) (recorded_length v (recorded_by seen v)))))
-    (pick (eqb v.kind isoch) (swept_ending swept.0 (total v.count swept.1 number))
-    (pick (eqb v.kind bulk || eqb v.kind interrupt) (bulk_ending (finished_at s.finished v.place) v) going))
+    (pick (kind_is v.kind isoch) (swept_ending swept.0 (total v.count swept.1 number))
+    (pick (kind_is v.kind bulk || kind_is v.kind interrupt) (bulk_ending (finished_at s.finished v.place) v) going))
 
 -- What an id has come to: no request is held with it, or one that is not over; a stopped one; or one that completes.
 pub data Came : Type 0 where
@@ -77,11 +75,11 @@ abbrev pub came_by : Ending → Record → Came
 came_by going v = nowhere
 came_by (ended_by code fails size) v = to_end v code fails size
 
-abbrev pub came_of : State → Lookup → Came
-came_of s Nothing = nowhere
-came_of s (At r) =
+abbrev pub came_of : State → Option ℕ → Came
+came_of s None = nowhere
+came_of s (Some r) =
     let v = record_at s.records r in
-    pick (eqb v.state stopped) to_stop (pick (eqb v.state in_flight) (came_by (ending_of s v r) v) nowhere)
+    pick (state_is v.state stopped) to_stop (pick (state_is v.state in_flight) (came_by (ending_of s v r) v) nowhere)
 
 unfoldable pub came_to : State → ℕ → Came
 came_to s id = came_of s (find_in s.records s.endpoint.account.occupancy id)

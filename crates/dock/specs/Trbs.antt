@@ -8,18 +8,19 @@ use Rattle.bursts.specs.declared.Bursts.{Bursts}
 use Rattle.trb.specs.declared.Trb.{Trb}
 use Rattle.trb.specs.declared.Trb.TheVariants.{Normal, Setup, Data, Status, Isoch}
 use Rattle.ring.specs.Ring.{link_trb}
-use Rattle.sizes.specs.Sizes.{packet_count, frames, control, bulk, interrupt, isoch}
+use Rattle.sizes.specs.Sizes.{packet_count, frames}
 use Rattle.packets.specs.Packets.{packet_at}
+use Rattle.records.specs.Kinds.{kind_is, control, bulk, interrupt, isoch}
 use Rattle.records.specs.declared.Record.{Record}
 use Rattle.dock.specs.declared.Endpoint.{Endpoint}
 
 -- How many TRBs a record's request has, by its kind: a record whose kind is none has none, and no request has over 64 packets.
 unfoldable pub trb_count : Record → ℕ
 trb_count v =
-    pick (eqb v.kind control) (pick (eqb v.length 0) 2 3)
-    (pick (eqb v.kind isoch) (min packet_count v.count)
-    (pick (eqb v.kind bulk) 1
-    (pick (eqb v.kind interrupt) 1 0)))
+    pick (kind_is v.kind control) (pick (eqb v.length 0) 2 3)
+    (pick (kind_is v.kind isoch) (min packet_count v.count)
+    (pick (kind_is v.kind bulk) 1
+    (pick (kind_is v.kind interrupt) 1 0)))
 
 -- A length as a TRB's length field has it, 17 bits.
 abbrev pub field17 : ℕ → ℕ
@@ -63,16 +64,16 @@ packet_size e packets k = (packet_at packets e.work.number k).requested
 -- TRB k of a record's request.
 unfoldable pub trb_of : Endpoint → Record → List ℕ → ℕ → Trb
 trb_of e v packets k =
-    pick (eqb v.kind control)
+    pick (kind_is v.kind control)
     (pick (eqb k 0) (setup_trb v) (pick (eqb k 1 && ltb 0 v.length) (data_trb v) (status_trb v)))
-    (pick (eqb v.kind isoch) (isoch_trb e v k (packet_size e packets k)) (normal_trb e v))
+    (pick (kind_is v.kind isoch) (isoch_trb e v k (packet_size e packets k)) (normal_trb e v))
 
 -- ---- a TD by name
 
 -- Whether a TD stores its first TRB last.
 -- "A control TD stores its setup with the opposite cycle, the rest as usual, then the setup again with the right one."
 unfoldable pub deferred : Record → Bool
-deferred v = eqb v.kind control
+deferred v = kind_is v.kind control
 
 -- The first TRB, which a deferred TD stores again.
 abbrev pub first_trb : Endpoint → Record → List ℕ → Trb

@@ -4,6 +4,10 @@
 // the finished table (four words a place), the request records (twelve words a record) and the packet records (one word a packet).
 #![tactic(auto)]
 
+ghost use Rattle.std.specs.Prelude.{◌≡◌, Err};
+ghost use Rattle.base.specs.First.{pick};
+ghost use Rattle.dock.specs.Refusals.{number, done};
+
 use mask::Occupancy;
 use ring::Position;
 
@@ -95,38 +99,64 @@ pub struct Request {
     pub length: u64,
 }
 
-// The answers. A refusal has document 01's number; `Numbers` in specs/ gives the number and the values of every case.
-
-// Of a call that is done or refused: making, configuring, the start of a submission, a cancel, a retire, the end of a reset.
-#[derive(Clone, Copy)]
-pub enum Outcome {
-    Done,
-    Refused(u32),
+// Why a call is refused: document 01's "When the dock says no". `number` has its number there. (7 to 9, and 10 of a reclaim, say what a request came to.)
+#[derive(Clone, Copy, PartialEq, Eq)]
+pub enum Refusal {
+    Unfit,
+    QueueFull,
+    TooLong,
+    RecordsFull,
+    OutOfReach,
+    NotInFlight,
+    NotUnderWay,
+    ForeignEvent,
+    Busy,
+    OutsideLimits,
 }
+
+impl Refusal {
+    pub fn number(self) -> u32
+        ensures { result ≡ number self }
+    {
+        match self {
+            Refusal::Unfit => 1,
+            Refusal::QueueFull => 2,
+            Refusal::TooLong => 3,
+            Refusal::RecordsFull => 4,
+            Refusal::OutOfReach => 5,
+            Refusal::NotInFlight => 6,
+            Refusal::NotUnderWay => 10,
+            Refusal::ForeignEvent => 11,
+            Refusal::Busy => 12,
+            Refusal::OutsideLimits => 13,
+        }
+    }
+}
+
+// One row of a call's refusals: where the test holds the call is refused with this.
+pub fn refuse(test: bool, refusal: Refusal) -> Result<(), Refusal>
+    ensures { result ≡ pick test (Err refusal) done }
+{
+    if test { Err(refusal) } else { Ok(()) }
+}
+
+// The answers; `Numbers` in specs/ gives the number and the values of every case.
 
 // Of a store: the slot that changed; after a submission's last store also its id and the doorbell word.
 #[derive(Clone, Copy)]
 pub enum Stored {
     Slot(usize),
     Last { slot: usize, id: u64, bell: u32 },
-    Refused(u32),
 }
 
 // Of a whole submission: its id and the doorbell word.
 #[derive(Clone, Copy)]
-pub enum Submitted {
-    Done { id: u64, bell: u32 },
-    Refused(u32),
+pub struct Submitted {
+    pub id: u64,
+    pub bell: u32,
 }
 
-// Of an event that is handed over: the slot whose place has it.
-#[derive(Clone, Copy)]
-pub enum Taken {
-    Place(usize),
-    Refused(u32),
-}
-
-// What a request came to: its id, the bytes moved, whether there are any and they came in; and where its packet lengths stand.
+// What a request came to that is done: its id, the bytes moved, whether there are any and they came in; and where its packet lengths stand.
 #[derive(Clone, Copy)]
 pub struct Completion {
     pub id: u64,
@@ -136,7 +166,7 @@ pub struct Completion {
     pub packets: usize,
 }
 
-// Of a reclaim.
+// Of a reclaim: what the request came to, or nothing yet.
 #[derive(Clone, Copy)]
 pub enum Reclaimed {
     Done(Completion),
@@ -144,61 +174,18 @@ pub enum Reclaimed {
     Failed(u32),
     Mismatch,
     Nothing,
-    Refused(u32),
 }
 
-// Of the begin of a reset: nothing to do, or two commands.
+// Of the begin of a reset, where there is something to do: two commands.
 #[derive(Clone, Copy)]
-pub enum Resetting {
-    Clear,
-    Commands {
-        reset: trb::Words,
-        dequeue: trb::Words,
-    },
-    Refused(u32),
-}
-
-// Of a stop or a resume: the words of a command.
-#[derive(Clone, Copy)]
-pub enum Command {
-    Words(trb::Words),
-    Refused(u32),
-}
-
-// Where the producer stands.
-#[derive(Clone, Copy)]
-pub enum Pointed {
-    At(ring::Pointer),
-    Refused(u32),
+pub struct ResetCommands {
+    pub reset: trb::Words,
+    pub dequeue: trb::Words,
 }
 
 // An answer with the endpoint afterwards, for the calls that change it.
 #[derive(Clone, Copy)]
-pub struct Changed {
-    pub answer: Outcome,
-    pub endpoint: Endpoint,
-}
-
-#[derive(Clone, Copy)]
-pub struct StoredOne {
-    pub answer: Stored,
-    pub endpoint: Endpoint,
-}
-
-#[derive(Clone, Copy)]
-pub struct StoredAll {
-    pub answer: Submitted,
-    pub endpoint: Endpoint,
-}
-
-#[derive(Clone, Copy)]
-pub struct ReclaimedOne {
-    pub answer: Reclaimed,
-    pub endpoint: Endpoint,
-}
-
-#[derive(Clone, Copy)]
-pub struct ResetBegun {
-    pub answer: Resetting,
+pub struct After<T> {
+    pub answer: Result<T, Refusal>,
     pub endpoint: Endpoint,
 }

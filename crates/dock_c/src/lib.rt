@@ -12,17 +12,18 @@
 ghost use Rattle.std.specs.Prelude.{◌≡◌};
 ghost use Rattle.dock_c.specs.Exported.{shape_given, identity_given, made, configured, started, stored_one, submitted, handed_over, reclaimed, cancelled, retired, reset_begun, reset_ended, stopped, resumed, pointed};
 
-use dock::{Identity, Shape};
-use loaded::{STATE_WORDS, is_state, load};
+use dock::{Identity, Refusal, Shape};
+use loaded::load;
 use saved::settle::{settle, settle_told, unmade};
 use told::answer;
-use told::answer::{ANSWER_WORDS, tell};
-use told::request::{is_request, request_of};
+use told::answer::tell;
+use told::request::request_of;
 use trb::Words;
 
 // ---- building
 
 #[unsafe(no_mangle)]
+#[tactic(auto, unfolding(crate::specs::Exported::made))]
 pub extern "C" fn thn_make(
     state: &mut [u64],
     ring: &mut [u32],
@@ -39,25 +40,34 @@ pub extern "C" fn thn_make(
 {
     let shape = Shape { slots, base };
     let who = Identity { slot, dci, mask };
-    if state.len() != STATE_WORDS {
-        return unmade(shape, who);
-    }
-    let m = making::make::make(ring, finished, records, packets, shape, who);
-    settle(state, m)
+    let Some(state) = state.as_mut_array() else {
+        return unmade(shape, who).number();
+    };
+    settle(
+        state,
+        making::make::make(ring, finished, records, packets, shape, who),
+    )
 }
 
 #[unsafe(no_mangle)]
+#[tactic(auto, unfolding(crate::specs::Exported::configured, loaded::specs::State::parsed, loaded::specs::State::is_state))]
 pub extern "C" fn thn_configure(state: &mut [u64], packet: u16, burst: u8, interval: u8) -> u32
     ensures { (result, state.new) ≡ configured state.old packet burst interval }
 {
-    if !is_state(state) {
-        return 1;
-    }
-    let c = making::configure::configure_periodic(load(state), packet, burst, interval);
-    settle(state, c)
+    let Ok(endpoint) = load(state) else {
+        return Refusal::Unfit.number();
+    };
+    let Some(state) = state.as_mut_array() else {
+        return Refusal::Unfit.number();
+    };
+    settle(
+        state,
+        making::configure::configure_periodic(endpoint, packet, burst, interval),
+    )
 }
 
 #[unsafe(no_mangle)]
+#[tactic(auto, unfolding(crate::specs::Exported::started, loaded::specs::State::parsed, loaded::specs::State::is_state, told::specs::Request::parsed))]
 pub extern "C" fn thn_start(
     state: &mut [u64],
     records: &mut [u64],
@@ -67,23 +77,23 @@ pub extern "C" fn thn_start(
 ) -> u32
     ensures { (result, state.new, records.new, packets.new) ≡ started state.old records.old packets.old request.now lengths.now }
 {
-    if !is_state(state) {
-        return 1;
-    }
-    if !is_request(request) {
-        return 1;
-    }
-    let s = building::start::start_request(
-        load(state),
-        records,
-        packets,
-        request_of(request),
-        lengths,
-    );
-    settle(state, s)
+    let Ok(endpoint) = load(state) else {
+        return Refusal::Unfit.number();
+    };
+    let Ok(request) = request_of(request) else {
+        return Refusal::Unfit.number();
+    };
+    let Some(state) = state.as_mut_array() else {
+        return Refusal::Unfit.number();
+    };
+    settle(
+        state,
+        building::start::start_request(endpoint, records, packets, request, lengths),
+    )
 }
 
 #[unsafe(no_mangle)]
+#[tactic(auto, unfolding(crate::specs::Exported::stored_one, loaded::specs::State::parsed, loaded::specs::State::is_state))]
 pub extern "C" fn thn_store(
     state: &mut [u64],
     answer: &mut [u64],
@@ -94,19 +104,21 @@ pub extern "C" fn thn_store(
 ) -> u32
     ensures { (result, state.new, answer.new, ring.new, finished.new) ≡ stored_one state.old answer.old ring.old finished.old records.now packets.now }
 {
-    if !is_state(state) {
-        return 1;
-    }
-    if answer.len() != ANSWER_WORDS {
-        return 1;
-    }
-    let s = building::store::next_store(load(state), ring, finished, records, packets);
-    let a = s.answer;
-    let e = s.endpoint;
-    settle_told(state, answer, answer::stored(a), e)
+    let Ok(endpoint) = load(state) else {
+        return Refusal::Unfit.number();
+    };
+    let Some(state) = state.as_mut_array() else {
+        return Refusal::Unfit.number();
+    };
+    let Some(answer) = answer.as_mut_array() else {
+        return Refusal::Unfit.number();
+    };
+    let s = building::store::next_store(endpoint, ring, finished, records, packets);
+    settle_told(state, answer, answer::stored(s.answer), s.endpoint)
 }
 
 #[unsafe(no_mangle)]
+#[tactic(auto, unfolding(crate::specs::Exported::submitted, loaded::specs::State::parsed, loaded::specs::State::is_state, told::specs::Request::parsed))]
 pub extern "C" fn thn_submit(
     state: &mut [u64],
     answer: &mut [u64],
@@ -119,32 +131,28 @@ pub extern "C" fn thn_submit(
 ) -> u32
     ensures { (result, state.new, answer.new, ring.new, finished.new, records.new, packets.new) ≡ submitted state.old answer.old ring.old finished.old records.old packets.old request.now lengths.now }
 {
-    if !is_state(state) {
-        return 1;
-    }
-    if answer.len() != ANSWER_WORDS {
-        return 1;
-    }
-    if !is_request(request) {
-        return 1;
-    }
+    let Ok(endpoint) = load(state) else {
+        return Refusal::Unfit.number();
+    };
+    let Ok(request) = request_of(request) else {
+        return Refusal::Unfit.number();
+    };
+    let Some(state) = state.as_mut_array() else {
+        return Refusal::Unfit.number();
+    };
+    let Some(answer) = answer.as_mut_array() else {
+        return Refusal::Unfit.number();
+    };
     let s = building::submit::submit_request(
-        load(state),
-        ring,
-        finished,
-        records,
-        packets,
-        request_of(request),
-        lengths,
+        endpoint, ring, finished, records, packets, request, lengths,
     );
-    let a = s.answer;
-    let e = s.endpoint;
-    settle_told(state, answer, answer::submitted(a), e)
+    settle_told(state, answer, answer::submitted(s.answer), s.endpoint)
 }
 
 // ---- completion
 
 #[unsafe(no_mangle)]
+#[tactic(auto, unfolding(crate::specs::Exported::handed_over, loaded::specs::State::parsed, loaded::specs::State::is_state))]
 pub extern "C" fn thn_hand_over(
     state: &[u64],
     answer: &mut [u64],
@@ -156,18 +164,19 @@ pub extern "C" fn thn_hand_over(
 ) -> u32
     ensures { (result, answer.new, finished.new) ≡ handed_over state.now answer.old finished.old w0 w1 w2 w3 }
 {
-    if !is_state(state) {
-        return 1;
-    }
-    if answer.len() != ANSWER_WORDS {
-        return 1;
-    }
+    let Ok(endpoint) = load(state) else {
+        return Refusal::Unfit.number();
+    };
+    let Some(answer) = answer.as_mut_array() else {
+        return Refusal::Unfit.number();
+    };
     let event = Words { w0, w1, w2, w3 };
-    let a = completion::hand_over(load(state), finished, event);
+    let a = completion::hand_over(endpoint, finished, event);
     tell(answer, answer::taken(a))
 }
 
 #[unsafe(no_mangle)]
+#[tactic(auto, unfolding(crate::specs::Exported::reclaimed, loaded::specs::State::parsed, loaded::specs::State::is_state))]
 pub extern "C" fn thn_reclaim(
     state: &mut [u64],
     answer: &mut [u64],
@@ -178,107 +187,117 @@ pub extern "C" fn thn_reclaim(
 ) -> u32
     ensures { (result, state.new, answer.new, records.new, packets.new) ≡ reclaimed state.old answer.old finished.now records.old packets.old id }
 {
-    if !is_state(state) {
-        return 1;
-    }
-    if answer.len() != ANSWER_WORDS {
-        return 1;
-    }
-    let r = reclaiming::reclaim_request(load(state), finished, records, packets, id);
-    let a = r.answer;
-    let e = r.endpoint;
-    settle_told(state, answer, answer::reclaimed(a), e)
+    let Ok(endpoint) = load(state) else {
+        return Refusal::Unfit.number();
+    };
+    let Some(state) = state.as_mut_array() else {
+        return Refusal::Unfit.number();
+    };
+    let Some(answer) = answer.as_mut_array() else {
+        return Refusal::Unfit.number();
+    };
+    let r = reclaiming::reclaim_request(endpoint, finished, records, packets, id);
+    settle_told(state, answer, answer::reclaimed(r.answer), r.endpoint)
 }
 
 #[unsafe(no_mangle)]
+#[tactic(auto, unfolding(crate::specs::Exported::cancelled, loaded::specs::State::parsed, loaded::specs::State::is_state))]
 pub extern "C" fn thn_cancel(state: &[u64], records: &mut [u64], id: u64) -> u32
     ensures { (result, records.new) ≡ cancelled state.now records.old id }
 {
-    if !is_state(state) {
-        return 1;
-    }
-    answer::outcome(completion::cancel_request(load(state), records, id))
+    let Ok(endpoint) = load(state) else {
+        return Refusal::Unfit.number();
+    };
+    answer::outcome(completion::cancel_request(endpoint, records, id))
 }
 
 // ---- stop and reset
 
 #[unsafe(no_mangle)]
+#[tactic(auto, unfolding(crate::specs::Exported::retired, loaded::specs::State::parsed, loaded::specs::State::is_state))]
 pub extern "C" fn thn_retire(state: &mut [u64], records: &mut [u64]) -> u32
     ensures { (result, state.new, records.new) ≡ retired state.old records.old }
 {
-    if !is_state(state) {
-        return 1;
-    }
-    let c = retiring::retire_all_after_stop(load(state), records);
-    settle(state, c)
+    let Ok(endpoint) = load(state) else {
+        return Refusal::Unfit.number();
+    };
+    let Some(state) = state.as_mut_array() else {
+        return Refusal::Unfit.number();
+    };
+    settle(state, retiring::retire_all_after_stop(endpoint, records))
 }
 
 #[unsafe(no_mangle)]
+#[tactic(auto, unfolding(crate::specs::Exported::reset_begun, loaded::specs::State::parsed, loaded::specs::State::is_state))]
 pub extern "C" fn thn_begin_reset(state: &mut [u64], answer: &mut [u64], records: &[u64]) -> u32
     ensures { (result, state.new, answer.new) ≡ reset_begun state.old answer.old records.now }
 {
-    if !is_state(state) {
-        return 1;
-    }
-    if answer.len() != ANSWER_WORDS {
-        return 1;
-    }
-    let b = resetting::begin_reset(load(state), records);
-    let a = b.answer;
-    let e = b.endpoint;
-    settle_told(state, answer, answer::resetting(a), e)
+    let Ok(endpoint) = load(state) else {
+        return Refusal::Unfit.number();
+    };
+    let Some(state) = state.as_mut_array() else {
+        return Refusal::Unfit.number();
+    };
+    let Some(answer) = answer.as_mut_array() else {
+        return Refusal::Unfit.number();
+    };
+    let b = resetting::begin_reset(endpoint, records);
+    settle_told(state, answer, answer::resetting(b.answer), b.endpoint)
 }
 
 // `worked` is not 0 where the commands of the reset worked.
 #[unsafe(no_mangle)]
+#[tactic(auto, unfolding(crate::specs::Exported::reset_ended, loaded::specs::State::parsed, loaded::specs::State::is_state))]
 pub extern "C" fn thn_end_reset(state: &mut [u64], worked: u32) -> u32
     ensures { (result, state.new) ≡ reset_ended state.old worked }
 {
-    if !is_state(state) {
-        return 1;
-    }
-    let c = resetting::end_reset(load(state), worked != 0);
-    settle(state, c)
+    let Ok(endpoint) = load(state) else {
+        return Refusal::Unfit.number();
+    };
+    let Some(state) = state.as_mut_array() else {
+        return Refusal::Unfit.number();
+    };
+    settle(state, resetting::end_reset(endpoint, worked != 0))
 }
 
 #[unsafe(no_mangle)]
+#[tactic(auto, unfolding(crate::specs::Exported::stopped, loaded::specs::State::parsed, loaded::specs::State::is_state))]
 pub extern "C" fn thn_stop(state: &[u64], answer: &mut [u64]) -> u32
     ensures { (result, answer.new) ≡ stopped state.now answer.old }
 {
-    if !is_state(state) {
-        return 1;
-    }
-    if answer.len() != ANSWER_WORDS {
-        return 1;
-    }
-    tell(answer, answer::command(stopping::stop_words(load(state))))
+    let Ok(endpoint) = load(state) else {
+        return Refusal::Unfit.number();
+    };
+    let Some(answer) = answer.as_mut_array() else {
+        return Refusal::Unfit.number();
+    };
+    tell(answer, answer::command(stopping::stop_words(endpoint)))
 }
 
 #[unsafe(no_mangle)]
+#[tactic(auto, unfolding(crate::specs::Exported::resumed, loaded::specs::State::parsed, loaded::specs::State::is_state))]
 pub extern "C" fn thn_resume(state: &[u64], answer: &mut [u64]) -> u32
     ensures { (result, answer.new) ≡ resumed state.now answer.old }
 {
-    if !is_state(state) {
-        return 1;
-    }
-    if answer.len() != ANSWER_WORDS {
-        return 1;
-    }
-    tell(answer, answer::command(stopping::resume_words(load(state))))
+    let Ok(endpoint) = load(state) else {
+        return Refusal::Unfit.number();
+    };
+    let Some(answer) = answer.as_mut_array() else {
+        return Refusal::Unfit.number();
+    };
+    tell(answer, answer::command(stopping::resume_words(endpoint)))
 }
 
 #[unsafe(no_mangle)]
+#[tactic(auto, unfolding(crate::specs::Exported::pointed, loaded::specs::State::parsed, loaded::specs::State::is_state))]
 pub extern "C" fn thn_pointer(state: &[u64], answer: &mut [u64]) -> u32
     ensures { (result, answer.new) ≡ pointed state.now answer.old }
 {
-    if !is_state(state) {
-        return 1;
-    }
-    if answer.len() != ANSWER_WORDS {
-        return 1;
-    }
-    tell(
-        answer,
-        answer::pointed(stopping::enqueue_pointer(load(state))),
-    )
+    let Ok(endpoint) = load(state) else {
+        return Refusal::Unfit.number();
+    };
+    let Some(answer) = answer.as_mut_array() else {
+        return Refusal::Unfit.number();
+    };
+    tell(answer, answer::pointed(stopping::enqueue_pointer(endpoint)))
 }

@@ -24,7 +24,7 @@ pub fn event_of(w: Words) -> Event
         form: w.w3 / 0x400 % 64,
         slot: w.w3 / 0x100_0000 % 256,
         endpoint: w.w3 / 0x1_0000 % 32,
-        address: w.w0 as u64 + w.w1 as u64 * 0x1_0000_0000,
+        address: u64::from(w.w0) + u64::from(w.w1) * 0x1_0000_0000,
         remaining: w.w2 % 0x100_0000,
         code: w.w2 / 0x100_0000 % 256,
     }

@@ -1,5 +1,6 @@
 -- The finished table: a place that is cleared is empty, an empty place that is filled has that event, a full one keeps its first, and no other
 -- place changes. Assumes nothing.
+use Rattle.std.specs.Prelude.{Option, Some, None}
 use Prim.Native.Nat.{ℕ, ◌+◌, ◌*◌, ◌≤◌}
 use mathlib.Core.List.{List}
 use mathlib.Core.Path.{◌≡◌, refl, sym, ap, ◌∙◌}
@@ -11,12 +12,10 @@ use Rattle.trb.specs.Layouts.{words_at, put_words}
 use Rattle.trb.specs.declared.Words.{Words}
 use Rattle.trb.proofs.BlockLaws.{words_same, words_other}
 use Rattle.finished.specs.Finished.{finished_at, clear_place, fill_place}
-use Rattle.finished.specs.declared.Finished.{Finished}
-use Rattle.finished.specs.declared.Finished.TheVariants.{Nothing, Event}
 
 -- What four words say, as a place.
-abbrev saying : Words → Finished
-saying w = pick (eqb w.w3 0) Nothing (Event w)
+abbrev saying : Words → Option Words
+saying w = pick (eqb w.w3 0) None (Some w)
 
 -- A place says what its words say.
 pub place_says : (l : List ℕ) (place : ℕ) → finished_at l place ≡ saying (words_at l place)
@@ -24,12 +23,12 @@ unfolding finished_at words_at
 place_says l place = refl
 
 module _ (l : List ℕ) (place : ℕ) (fits : 4 * place + 4 ≤ length l) where
-  pub cleared : finished_at (clear_place l place) place ≡ Nothing
+  pub cleared : finished_at (clear_place l place) place ≡ None
   cleared = place_says (clear_place l place) place ∙ ap saying (words_same l place (record { w0 = 0; w1 = 0; w2 = 0; w3 = 0 }) fits)
 
   module _ (event : Words) where
     -- An empty place takes the event, which has a type in its fourth word.
-    pub taken : get_or l (4 * place + 3) 0 ≡ 0 → (event.w3 ≡ 0 → ⊥) → finished_at (fill_place l place event) place ≡ Event event
+    pub taken : get_or l (4 * place + 3) 0 ≡ 0 → (event.w3 ≡ 0 → ⊥) → finished_at (fill_place l place event) place ≡ Some event
     unfolding fill_place
     taken empty typed =
         simp (eq-eqb _ _ empty)

@@ -1,14 +1,12 @@
 -- The finished table: one place for each slot, empty or one event. Document 01, module 3, and "What must change shape".
-use Rattle.std.specs.Prelude.{ℕ, ◌+◌, ◌*◌, List, eqb, get_or}
+use Rattle.std.specs.Prelude.{ℕ, ◌+◌, ◌*◌, List, eqb, get_or, Option, Some, None}
 use Rattle.base.specs.First.{pick}
 use Rattle.trb.specs.Layouts.{words_at, put_words}
 use Rattle.trb.specs.declared.Words.{Words}
-use Rattle.finished.specs.declared.Finished.{Finished}
-use Rattle.finished.specs.declared.Finished.TheVariants.{Nothing, Event}
 
 -- "Reading leaves it." A place whose fourth word is 0 is empty; an event has its type there.
-unfoldable pub finished_at : List ℕ → ℕ → Finished
-finished_at finished place = pick (eqb (get_or finished (4 * place + 3) 0) 0) Nothing (Event (words_at finished place))
+unfoldable pub finished_at : List ℕ → ℕ → Option Words
+finished_at finished place = pick (eqb (get_or finished (4 * place + 3) 0) 0) None (Some (words_at finished place))
 
 -- "a TRB's first store clears it."
 abbrev pub clear_place : List ℕ → ℕ → List ℕ

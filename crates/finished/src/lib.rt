@@ -8,23 +8,16 @@ ghost use Rattle.trb.specs.Layouts.{put_words};
 
 use trb::Words;
 
-// What stands in a place.
-#[derive(Clone, Copy)]
-pub enum Finished {
-    Nothing,
-    Event(Words),
-}
-
-pub fn get_finished(finished: &[u32], place: usize) -> Finished
+pub fn get_finished(finished: &[u32], place: usize) -> Option<Words>
     requires { 4 * place + 4 ≤ length finished.now }
     ensures { result ≡ finished_at finished.now place }
 {
     let start = 4 * place;
     let last = finished[start + 3];
     if last == 0 {
-        return Finished::Nothing;
+        return None;
     }
-    Finished::Event(Words {
+    Some(Words {
         w0: finished[start],
         w1: finished[start + 1],
         w2: finished[start + 2],

@@ -1,5 +1,6 @@
 -- Numbers are kept in order, as many as there is room for; and packet lengths for which there is no room make no difference: with room for L-1 of them,
 -- a request with more is refused by its start just as one with the first ones alone, with the same number. Assumes nothing.
+use Rattle.std.specs.Prelude.{⊤, Err}
 use Prim.Native.Nat.{ℕ, ◌+◌, ◌-◌, ◌≤◌, ◌<◌, max}
 use mathlib.Core.Bool.{Bool, true, false, not, ◌&&◌}
 use mathlib.Core.List.{List}
@@ -12,9 +13,9 @@ use lib.ListN.{length, get_or, set, take, length-take}
 use lib.Seq.{get_or-set_same, get_or-set_other}
 use Rattle.base.specs.First.{pick}
 use Rattle.base.proofs.Chosen.{declines}
-use Rattle.dock.specs.declared.Changed.{Changed}
+use Rattle.dock.specs.declared.After.{After}
+use Rattle.dock.specs.Refusals.{refusal as refused}
 use Rattle.dock.specs.declared.Endpoint.{Endpoint}
-use Rattle.dock.specs.declared.Outcome.TheVariants.{Refused}
 use Rattle.dock.specs.declared.Request.{Request}
 use Rattle.dock.specs.declared.What.TheVariants.{Isoch}
 use Rattle.dock.specs.RowOne.{fits_with}
@@ -53,8 +54,8 @@ module _ (e : Endpoint) (records packets : List ℕ) (request : Request) (incomi
   abbrev iso : Request
   iso = with_what request (Isoch incoming)
 
-  abbrev refusal : Changed × List ℕ × List ℕ
-  refusal = (record { answer = Refused (crowded_no (not (fits_with e records && eqb (length packets) packets_size)) e.work.busy e.flags.reset); endpoint = e }, records, packets)
+  abbrev refusal : After ⊤ × List ℕ × List ℕ
+  refusal = (record { answer = Err (refused (crowded_no (not (fits_with e records && eqb (length packets) packets_size)) e.work.busy e.flags.reset)); endpoint = e }, records, packets)
 
   crowds : (lengths : List ℕ) → crowded e.shape.slots e.account.outstanding (max 1 (length lengths)) ≡ true
       → start e records packets iso lengths ≡ refusal

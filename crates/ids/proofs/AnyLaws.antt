@@ -1,12 +1,18 @@
 -- `any` says whether some record passes a test, `held_by` whether a record is held with an id, and `after_id` which id comes next, each as facts
 -- about numbers. Assumes nothing.
-use mathlib.Core.Path.{◌≡◌, refl, sym, ap, ◌∙◌}
+use mathlib.Core.List.{List}
+use mathlib.Core.Path.{◌≡◌, refl, sym, ap, subst, ◌∙◌}
 use mathlib.Core.Bool.{Bool, true, false, ◌||◌}
 use mathlib.Core.Logic.{◌⊎◌, inl, inr, ⊎_elim}
 use Prim.Native.Nat.{ℕ, zero, suc, ◌+◌, ◌-◌, ◌^◌, ◌<◌}
 use native.Mathlib.Nat.{eq-or-lt_of_le, le_of_suc-le-suc}
 use native.Mathlib.Omega.{arith}
 use borrow.Author.Tests.{eq-eqb, ne_eqb}
+use lib.ListN.{length}
+use Rattle.std.proofs.Common.{zero-add}
+use Rattle.std.proofs.lemmas.List.FromFn.{length-range_with_len, get_or-range_with_len}
+use Rattle.std.specs.Bool.{MatchBool}
+use Rattle.std.specs.List.{range_with_len, HoldsAt, AllWithin}
 use Rattle.base.proofs.Decide.{Decides, both, by_eqb, by_true}
 use Rattle.ids.specs.Order.{after_id}
 use Rattle.ids.specs.Free.{any, held_by}
@@ -54,6 +60,16 @@ any_found (suc n) test e =
 pub any_false : (n : ℕ) (test : ℕ → Bool) → any n test ≡ false → (k : ℕ) → k < n → test k ≡ false
 any_false n test e k l =
     ⊎_elim (λ (t : test k ≡ true). absurd (never_both (any_one n k test l t) e)) (λ (t : test k ≡ false). t) (true_or_false (test k))
+
+-- the library's `any` over the numbers below n answers what the definition does
+pub any_over : (n : ℕ) (test : ℕ → Bool) (r : Bool)
+    → let all : List ℕ = range_with_len 0 n in
+    MatchBool r ((k : ℕ) × (k < length all) × HoldsAt (λ i. test i ≡ true) all k) (AllWithin (λ i. test i ≡ false) all 0 (length all)) → r ≡ any n test
+any_over n test true h =
+    let l : h.0 < n = omega (arith, h.1, length-range_with_len 0 n) in
+    sym (any_one n h.0 test l (subst (λ (i : ℕ). test i ≡ true) (get_or-range_with_len 0 n h.0 0 l ∙ zero-add h.0) (h.2 0)))
+any_over n test false h =
+    sym (any_none n test (λ k l. subst (λ (i : ℕ). test i ≡ false) (get_or-range_with_len 0 n k 0 l ∙ zero-add k) (h k 0 (omega arith) (omega (arith, length-range_with_len 0 n)))))
 
 -- ---- one record
 

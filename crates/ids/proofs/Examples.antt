@@ -1,4 +1,5 @@
 -- Worked examples of the id search and of the lookup, each by computing. Assumes nothing.
+use Rattle.std.specs.Prelude.{Some, None}
 use mathlib.Core.Path.{◌≡◌, refl}
 use mathlib.Core.List.{[], ◌∷◌}
 use Prim.Native.Nat.{ℕ, ◌-◌, ◌^◌}
@@ -8,7 +9,6 @@ use Rattle.mask.specs.declared.Occupancy.{Occupancy}
 use Rattle.ids.specs.Order.{after_id}
 use Rattle.ids.specs.Free.{held_by, any, free_from, free_id, free_in}
 use Rattle.ids.specs.Lookup.{find_from, find_id}
-use Rattle.ids.specs.declared.Lookup.TheVariants.{At, Nothing}
 
 -- the next id 2^64 - 1 is taken, and 1 comes next
 last_taken : free_in [] none (2 ^ 64 - 1) ≡ 2 ^ 64 - 1
@@ -36,15 +36,15 @@ unfolding free_id any held_by free_from held taken
 all_three = refl
 
 -- the id 2 is found where record 1 is held
-found : find_id 64 (held (taken outer 1)) three 2 ≡ At 1
+found : find_id 64 (held (taken outer 1)) three 2 ≡ Some 1
 unfolding find_id held_by find_from held taken
 found = refl
 
-not_found : find_id 64 (held outer) three 2 ≡ Nothing
+not_found : find_id 64 (held outer) three 2 ≡ None
 unfolding find_id held_by find_from held taken
 not_found = refl
 
 -- of the records 3 to 63, which all have the id 0, the lowest held one counts
-lower_counts : find_id 64 (held (taken (taken none 9) 63)) three 0 ≡ At 9
+lower_counts : find_id 64 (held (taken (taken none 9) 63)) three 0 ≡ Some 9
 unfolding find_id held_by find_from held taken
 lower_counts = refl

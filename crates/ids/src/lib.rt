@@ -3,8 +3,9 @@
 
 ghost use Rattle.std.specs.Prelude.{◌≡◌, ◌*◌, ◌<◌, length};
 ghost use Rattle.ids.specs.Order.{after_id};
-ghost use Rattle.sizes.specs.Sizes.{records_size};
-ghost use Rattle.ids.specs.Free.{free_in, taken};
+ghost use Rattle.sizes.specs.Sizes.{record_count, records_size};
+ghost use Rattle.mask.specs.Occupancy.{held};
+ghost use Rattle.ids.specs.Free.{held_by, id_at, free_in, taken};
 ghost use Rattle.ids.specs.Lookup.{find_in};
 
 use mask::Occupancy;
@@ -16,18 +17,20 @@ pub struct Taken {
     pub next: u64,
 }
 
-// The record that has an id, if there is one.
-#[derive(Clone, Copy)]
-pub enum Lookup {
-    At(usize),
-    Nothing,
-}
-
 // The id after `id`: 1 comes after the largest, and 0 is never used.
 pub fn after(id: u64) -> u64
     ensures { result ≡ after_id id }
 {
-    if id == u64::MAX { 1 } else { id + 1 }
+    id.checked_add(1).unwrap_or(1)
+}
+
+// Is the record held, and has it the id?
+#[tactic(auto, unfolding(crate::specs::Free::held_by))]
+fn has_id(records: &[u64], occupancy: Occupancy, r: usize, id: u64) -> bool
+    requires { (length records.now ≡ records_size) × (r < record_count) }
+    ensures { result ≡ held_by (held occupancy) (id_at records.now) id r }
+{
+    occupancy.is_held(r) && records[sizes::RECORD_WORDS * r] == id
 }
 
 // The first id from `next` on that no held record has. A record is held that the occupancy says, in flight or stopped.
@@ -36,16 +39,13 @@ pub fn free_id(records: &[u64], occupancy: Occupancy, next: u64) -> Taken
     ensures { result ≡ taken (free_in records.now occupancy next) }
 {
     let mut candidate = next;
+    // Document 01 names this form: an outer loop that yields the id by break, and an inner scan that continues it by label.
     let id = 'ids: loop {
-        let mut r: usize = 0;
-        while r < sizes::RECORD_COUNT {
-            if mask::is_held(occupancy, r) {
-                if records[sizes::RECORD_WORDS * r] == candidate {
-                    candidate = after(candidate);
-                    continue 'ids;
-                }
+        for r in 0..sizes::RECORD_COUNT {
+            if has_id(records, occupancy, r, candidate) {
+                candidate = after(candidate);
+                continue 'ids;
             }
-            r += 1;
         }
         break candidate;
     };
@@ -56,19 +56,9 @@ pub fn free_id(records: &[u64], occupancy: Occupancy, next: u64) -> Taken
 }
 
 // The held record with the id, the lowest of several.
-#[tactic(auto, unfolding(crate::specs::Free::held_by))]
-pub fn find_id(records: &[u64], occupancy: Occupancy, id: u64) -> Lookup
+pub fn find_id(records: &[u64], occupancy: Occupancy, id: u64) -> Option<usize>
     requires { length records.now ≡ records_size }
     ensures { result ≡ find_in records.now occupancy id }
 {
-    let mut at: usize = 0;
-    while at < sizes::RECORD_COUNT {
-        if mask::is_held(occupancy, at) {
-            if records[sizes::RECORD_WORDS * at] == id {
-                return Lookup::At(at);
-            }
-        }
-        at += 1;
-    }
-    Lookup::Nothing
+    (0..sizes::RECORD_COUNT).find(|&r| has_id(records, occupancy, r, id))
 }

@@ -1,17 +1,26 @@
 // The packets of an ISO request: each length is read once, written to its packet record and stored in its TRB.
 #![tactic(auto)]
 
-ghost use Rattle.std.specs.Prelude.{◌≡◌, ◌+◌, ◌*◌, ◌<◌, ◌≤◌, length};
+ghost use Rattle.std.specs.Prelude.{◌≡◌, ◌+◌, ◌<◌, ◌≤◌, length};
 ghost use Rattle.std.proofs.Math.Seq.{paste};
 ghost use Rattle.bursts.specs.Bursts.{bursts_of};
 ghost use Rattle.sizes.specs.Sizes.{packet_count};
 ghost use Rattle.dock.specs.Start.{at_least_one};
+ghost use Rattle.striding.specs.Stride.{Placed};
 ghost use Rattle.isoch.specs.Packed.{packet_put, all_put};
 
 use bursts::Bursts;
 use dock::{Periodic, Shape};
 use ring::Position;
 use striding::put;
+
+// What every packet of an ISO submission goes by: the ring's shape, the endpoint's settings and the direction.
+#[derive(Clone, Copy)]
+pub struct Plan {
+    pub shape: Shape,
+    pub periodic: Periodic,
+    pub incoming: bool,
+}
 
 // Where an ISO submission stands: the producer's position, the running address and the next frame number.
 #[derive(Clone, Copy)]
@@ -33,27 +42,25 @@ fn bursts_again(s: Periodic, size: u64, bursts: Bursts, next: u64) -> Bursts
 }
 
 // One packet's store. A packet is a TD of its own: its link is not chained.
+#[tactic(auto, unfolding(crate::specs::Packed::packet_put))]
 fn put_packet(
     ring: &mut [u32],
     finished: &mut [u32],
-    shape: Shape,
-    s: Periodic,
-    incoming: bool,
+    plan: Plan,
     pen: Pen,
     size: u64,
     bursts: Bursts,
     more: bool,
 ) -> Pen
-    requires { (4 * shape.slots ≤ length ring.old) × (4 * shape.slots ≤ length finished.old) × (2 ≤ shape.slots) × (pen.at.place + 1 < shape.slots) × (bursts ≡ bursts_of size s.packet s.burst) }
-    ensures { ((result, ring.new, finished.new) ≡ packet_put shape s incoming size more pen ring.old finished.old) × (result.at.place + 1 < shape.slots) }
+    requires { Placed plan.shape pen.at (length ring.old) (length finished.old) × (bursts ≡ bursts_of size plan.periodic.packet plan.periodic.burst) }
+    ensures { ((result, ring.new, finished.new) ≡ packet_put plan.shape plan.periodic plan.incoming size more pen ring.old finished.old) × (result.at.place + 1 < plan.shape.slots) }
 {
-    let trb = trbs::packet_trb(pen.address, size, bursts, incoming, more);
-    let p = pen.at;
-    let q = put::put_trb(ring, finished, shape, false, p, trb);
+    let trb = trbs::packet_trb(pen.address, size, bursts, plan.incoming, more);
+    let at = put::put_trb(ring, finished, plan.shape, false, pen.at, trb, false);
     Pen {
-        at: q,
-        address: std::num::wrapping_add_u64(pen.address, size),
-        frame: steps::frame_after(pen.frame, s.interval),
+        at,
+        address: pen.address.wrapping_add(size),
+        frame: steps::frame_after(pen.frame, plan.periodic.interval),
     }
 }
 
@@ -63,36 +70,21 @@ fn put_packets(
     finished: &mut [u32],
     packets: &mut [u64],
     start: usize,
-    shape: Shape,
-    s: Periodic,
-    incoming: bool,
+    plan: Plan,
     pen: Pen,
     sizes: &[u64],
 ) -> Pen
-    requires { (4 * shape.slots ≤ length ring.old) × (4 * shape.slots ≤ length finished.old) × (2 ≤ shape.slots) × (pen.at.place + 1 < shape.slots) × (start + length sizes.now ≤ length packets.old) }
-    ensures { ((result, ring.new, finished.new) ≡ all_put shape s incoming sizes.now pen ring.old finished.old) × (packets.new ≡ paste packets.old start sizes.now (length sizes.now)) }
+    requires { Placed plan.shape pen.at (length ring.old) (length finished.old) × (start + length sizes.now ≤ length packets.old) }
+    ensures { ((result, ring.new, finished.new) ≡ all_put plan.shape plan.periodic plan.incoming sizes.now pen ring.old finished.old) × (packets.new ≡ paste packets.old start sizes.now (length sizes.now)) }
 {
     let mut at = pen;
     let mut size: u64 = 0;
-    let mut bursts = bursts::bursts_of(0, s.packet, s.burst);
-    let mut i: usize = 0;
-    while i < sizes.len() {
-        let next = sizes[i];
+    let mut bursts = bursts::bursts_of(0, plan.periodic.packet, plan.periodic.burst);
+    for (i, &next) in sizes.iter().enumerate() {
         packets[start + i] = next;
-        bursts = bursts_again(s, size, bursts, next);
+        bursts = bursts_again(plan.periodic, size, bursts, next);
         size = next;
-        i += 1;
-        at = put_packet(
-            ring,
-            finished,
-            shape,
-            s,
-            incoming,
-            at,
-            size,
-            bursts,
-            i != sizes.len(),
-        );
+        at = put_packet(ring, finished, plan, at, size, bursts, i + 1 != sizes.len());
     }
     at
 }
@@ -103,22 +95,14 @@ pub fn put_isoch(
     finished: &mut [u32],
     packets: &mut [u64],
     start: usize,
-    shape: Shape,
-    s: Periodic,
-    incoming: bool,
+    plan: Plan,
     pen: Pen,
     lengths: &[u64],
 ) -> Pen
-    requires { (4 * shape.slots ≤ length ring.old) × (4 * shape.slots ≤ length finished.old) × (2 ≤ shape.slots) × (pen.at.place + 1 < shape.slots) × (start + packet_count ≤ length packets.old) × (length lengths.now ≤ packet_count) }
-    ensures { ((result, ring.new, finished.new) ≡ all_put shape s incoming (at_least_one lengths.now) pen ring.old finished.old) × (packets.new ≡ paste packets.old start (at_least_one lengths.now) (length (at_least_one lengths.now))) }
+    requires { Placed plan.shape pen.at (length ring.old) (length finished.old) × (start + packet_count ≤ length packets.old) × (length lengths.now ≤ packet_count) }
+    ensures { ((result, ring.new, finished.new) ≡ all_put plan.shape plan.periodic plan.incoming (at_least_one lengths.now) pen ring.old finished.old) × (packets.new ≡ paste packets.old start (at_least_one lengths.now) (length (at_least_one lengths.now))) }
 {
-    if lengths.len() == 0 {
-        let none: [u64; 1] = [0];
-        return put_packets(
-            ring, finished, packets, start, shape, s, incoming, pen, &none,
-        );
-    }
-    put_packets(
-        ring, finished, packets, start, shape, s, incoming, pen, lengths,
-    )
+    let none: [u64; 1] = [0];
+    let sizes = if lengths.is_empty() { &none } else { lengths };
+    put_packets(ring, finished, packets, start, plan, pen, sizes)
 }

@@ -14,55 +14,24 @@ use dock::{Identity, Shape};
 pub fn limits_hold(shape: Shape, who: Identity) -> bool
     ensures { result ≡ limits_hold shape who }
 {
-    if shape.slots < sizes::FEWEST_SLOTS {
-        return false;
-    }
-    if shape.base % sizes::ALIGNMENT != 0 {
-        return false;
-    }
-    if (sizes::BOUNDARY - shape.base % sizes::BOUNDARY) / sizes::TRB_BYTES < shape.slots as u64 {
-        return false;
-    }
-    if who.dci < 1 {
-        return false;
-    }
-    if sizes::MOST_DCI < who.dci {
-        return false;
-    }
-    if who.slot < 1 {
-        return false;
-    }
-    true
+    sizes::FEWEST_SLOTS <= shape.slots
+        && shape.base % sizes::ALIGNMENT == 0
+        && shape.slots as u64 <= (sizes::BOUNDARY - shape.base % sizes::BOUNDARY) / sizes::TRB_BYTES
+        && 1 <= who.dci
+        && who.dci <= sizes::MOST_DCI
+        && 1 <= who.slot
 }
 
 // "place above L-2 except L-1 just before the link's store": the place of the next store.
 pub fn stands(slots: usize, place: usize, busy: bool, stored: usize) -> bool
     ensures { result ≡ place_stands slots place busy stored }
 {
-    if slots == 0 {
-        return false;
-    }
-    if place < slots - 1 {
-        return true;
-    }
-    if place != slots - 1 {
-        return false;
-    }
-    if !busy {
-        return false;
-    }
-    0 < stored
+    place < slots && (place < slots - 1 || busy && 0 < stored)
 }
 
 // A table of four words a slot has its size: the ring, the finished table.
 pub fn is_sized(words: usize, slots: usize) -> bool
     ensures { result ≡ eqb words (ring_size slots) }
 {
-    if words % 4 != 0 {
-        return false;
-    }
-    if words / 4 != slots {
-        return false;
-    }
-    true
+    words % 4 == 0 && words / 4 == slots
 }

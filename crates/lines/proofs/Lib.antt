@@ -1,3 +1,2 @@
 -- Laws of what the reader comes to.
-pub mod PickLaws
 pub mod ScanLaws

@@ -1,60 +1,65 @@
 -- The reader of a line between two of its bytes: what each byte, and the line's end, does to it. The crate `format` says what comes of a whole line.
-use Rattle.std.specs.Prelude.{ℕ, ◌+◌, ◌-◌, ◌*◌, ◌%◌, ◌^◌, Bool, true, false, not, ◌&&◌, ◌||◌, List, [], ◌∷◌, eqb, ltb, leb, length, set}
+use Rattle.std.specs.Prelude.{ℕ, ◌+◌, ◌-◌, ◌*◌, ◌%◌, ◌^◌, Bool, true, false, not, ◌&&◌, ◌||◌, List, [], ◌∷◌, eqb, ltb, leb, length, set, Option, None, Some, is_none, unwrap_or}
 use Rattle.base.specs.First.{pick}
+use Rattle.lines.specs.declared.Line.{Line}
 use Rattle.lines.specs.declared.Reading.{Reading}
 use Rattle.lines.specs.declared.Scanned.{Scanned}
-use Rattle.words.specs.Words.{unknown, name, counts, form_of, base_of, most_of, rest_of}
-use Rattle.digits.specs.Digits.{digit_of, fits}
+use Rattle.words.specs.declared.Word.{Word}
+use Rattle.words.specs.Words.{name, counts, word_of, form_of, base_of, most_of, rest_of}
+use Rattle.digits.specs.Digits.{digit_of, grown_by}
 
 abbrev pub start : Bool → Reading
 start full =
-    record { full = full; good = true; naming = true; before = 0; word = 0; form = 0; value = 0; some = false; count = 0 }
+    record { full = full; good = true; before = None; letters = 0; word = None; form = 0; value = None; count = 0 }
 
--- What a byte changes: the line is bad; the word grows; the number grows; the form is known; a number is kept; a word or a number begins.
+-- What a byte changes: the line is bad; the letters grow; the number grows; the word and its form are known; a number is kept; a word or a number begins.
 abbrev pub bad : Reading → Reading
 bad r =
-    record { full = r.full; good = false; naming = r.naming; before = r.before; word = r.word; form = r.form; value = r.value; some = r.some; count = r.count }
+    record { full = r.full; good = false; before = r.before; letters = r.letters; word = r.word; form = r.form; value = r.value; count = r.count }
 
-abbrev pub with_word : Reading → ℕ → Reading
-with_word r w =
-    record { full = r.full; good = r.good; naming = r.naming; before = r.before; word = w; form = r.form; value = r.value; some = r.some; count = r.count }
+abbrev pub with_letters : Reading → ℕ → Reading
+with_letters r n =
+    record { full = r.full; good = r.good; before = r.before; letters = n; word = r.word; form = r.form; value = r.value; count = r.count }
 
 abbrev pub with_value : Reading → ℕ → Reading
 with_value r v =
-    record { full = r.full; good = r.good; naming = r.naming; before = r.before; word = r.word; form = r.form; value = v; some = true; count = r.count }
+    record { full = r.full; good = r.good; before = r.before; letters = r.letters; word = r.word; form = r.form; value = Some v; count = r.count }
 
-abbrev pub with_form : Reading → ℕ → Reading
-with_form r f =
-    record { full = r.full; good = r.good; naming = r.naming; before = r.before; word = r.word; form = f; value = r.value; some = r.some; count = r.count }
+abbrev pub with_word : Reading → Word → ℕ → Reading
+with_word r w f =
+    record { full = r.full; good = r.good; before = r.before; letters = r.letters; word = Some w; form = f; value = r.value; count = r.count }
 
 abbrev pub with_count : Reading → ℕ → ℕ → Reading
 with_count r n f =
-    record { full = r.full; good = r.good; naming = r.naming; before = r.before; word = r.word; form = f; value = r.value; some = r.some; count = n }
+    record { full = r.full; good = r.good; before = r.before; letters = r.letters; word = r.word; form = f; value = r.value; count = n }
 
 abbrev pub another_word : Reading → Reading
 another_word r =
-    record { full = r.full; good = r.good; naming = true; before = r.word; word = 0; form = 0; value = r.value; some = r.some; count = r.count }
+    record { full = r.full; good = r.good; before = r.word; letters = 0; word = None; form = 0; value = r.value; count = r.count }
 
 abbrev pub another_number : Reading → Reading
 another_number r =
-    record { full = r.full; good = r.good; naming = false; before = r.before; word = r.word; form = r.form; value = 0; some = false; count = r.count }
+    record { full = r.full; good = r.good; before = r.before; letters = r.letters; word = r.word; form = r.form; value = None; count = r.count }
 
 -- ---- a byte
 
 -- A letter, a to z, of a word that is not yet longer than any.
 unfoldable pub grows : ℕ → ℕ → Bool
-grows w b = leb 97 b && leb b 122 && ltb w (2 ^ 55)
+grows n b = leb 97 b && leb b 122 && ltb n (2 ^ 55)
 
 abbrev pub grown : ℕ → ℕ → ℕ
-grown w b = w * 32 + (b - 96)
+grown n b = n * 32 + (b - 96)
 
 unfoldable pub letter : Reading → ℕ → Reading
-letter r b = pick (grows r.word b) (with_word r (grown r.word b)) (bad r)
+letter r b = pick (grows r.letters b) (with_letters r (grown r.letters b)) (bad r)
+
+-- A number with a digit more, where it has one.
+abbrev pub with_number : Reading → Option ℕ → Reading
+with_number r None = bad r
+with_number r (Some v) = with_value r v
 
 unfoldable pub digit : Reading → ℕ → Reading
-digit r b =
-    let base = base_of (r.form % 16) in
-    pick (fits r.value base (digit_of b) (most_of (r.form % 16))) (with_value r (r.value * base + digit_of b)) (bad r)
+digit r b = with_number r (grown_by (base_of (r.form % 16)) (most_of (r.form % 16)) (unwrap_or r.value 0) (digit_of b))
 
 -- ---- the end of a field
 
@@ -62,18 +67,28 @@ digit r b =
 unfoldable pub keep : ℕ → ℕ → List ℕ → ℕ × List ℕ
 keep n v values = pick (ltb n (length values)) (n + 1, set values n v) (n, values)
 
+-- A word is one that is known and has a form,
+abbrev pub with_form_of : Reading → Word → Option ℕ → Reading
+with_form_of r w None = bad r
+with_form_of r w (Some f) = with_word r w f
+
+abbrev pub with_word_of : Reading → Option Word → Reading
+with_word_of r None = bad r
+with_word_of r (Some w) = with_form_of r w (form_of r.full r.before w)
+
 unfoldable pub close_word : Reading → Reading
-close_word r =
-    let f = form_of r.full r.before r.word in
-    pick (eqb f unknown) (bad r) (with_form r f)
+close_word r = with_word_of r (word_of r.letters)
+
+-- and a number has a digit.
+abbrev pub with_kept : Reading → List ℕ → Option ℕ → Reading × List ℕ
+with_kept r values None = (bad r, values)
+with_kept r values (Some v) = let k = keep r.count v values in (with_count r k.0 (rest_of r.form), k.1)
 
 unfoldable pub close_number : Reading → List ℕ → Reading × List ℕ
-close_number r values =
-    let k = keep r.count r.value values in
-    pick r.some (with_count r k.0 (rest_of r.form), k.1) (bad r, values)
+close_number r values = with_kept r values r.value
 
 unfoldable pub close : Reading → List ℕ → Reading × List ℕ
-close r values = pick r.naming (close_word r, values) (close_number r values)
+close r values = pick (is_none r.word) (close_word r, values) (close_number r values)
 
 -- Behind a tab another field begins: a word, a number, or one that the line's word does not take.
 unfoldable pub opened : Reading → Reading
@@ -89,7 +104,7 @@ feed r values b =
     let c = close r values in
     pick (not r.good) (r, values)
     (pick (eqb b 9) (opened c.0, c.1)
-    (pick r.naming (letter r b, values) (digit r b, values)))
+    (pick (is_none r.word) (letter r b, values) (digit r b, values)))
 
 -- Every field that the word takes has come.
 unfoldable pub complete : ℕ → Bool
@@ -99,6 +114,14 @@ unfoldable pub finish : Reading → List ℕ → Reading × List ℕ
 finish r values =
     let c = close r values in
     pick (not r.good) (r, values) (pick (complete c.0.form) c (bad c.0, c.1))
+
+-- What the line says: nothing where it is bad.
+abbrev pub worded : Reading → Option Word → Option Line
+worded r None = None
+worded r (Some w) = Some (record { before = r.before; word = w; count = r.count })
+
+unfoldable pub line_of : Reading → Option Line
+line_of r = pick r.good (worded r r.word) None
 
 -- ---- many bytes
 

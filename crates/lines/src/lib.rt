@@ -5,21 +5,30 @@
 #![tactic(auto)]
 
 ghost use Rattle.std.specs.Prelude.{◌≡◌, drop};
-ghost use Rattle.lines.specs.Reader.{start, bad, letter, digit, keep, close_word, close_number, close, opened, feed, complete, finish, scan};
+ghost use Rattle.lines.specs.Reader.{start, bad, letter, digit, keep, close_word, close_number, close, opened, feed, complete, finish, line_of, scan};
 
-// What is known of a line between two of its bytes: whether it may have a drive's words; whether all could be read so far; whether the field is a
-// word; the word before it and the word; the form of the fields still to come, that under way first; the number under way and whether it has a
-// digit; and how many numbers stand.
+use words::Word;
+
+// What is known of a line between two of its bytes: whether it may have a drive's words; whether all could be read so far; the word before its word;
+// the number that the letters of its word make so far, and the word, once it has ended; the form of the fields still to come, that under way first; the
+// number under way, once it has a digit; and how many numbers stand.
 #[derive(Clone, Copy)]
 pub struct Reading {
     pub full: bool,
     pub good: bool,
-    pub naming: bool,
-    pub before: u64,
-    pub word: u64,
+    pub before: Option<Word>,
+    pub letters: u64,
+    pub word: Option<Word>,
     pub form: u64,
-    pub value: u64,
-    pub some: bool,
+    pub value: Option<u64>,
+    pub count: usize,
+}
+
+// What a line says that was read to its end: the word before its word, where it has two, the word, and how many numbers stand.
+#[derive(Clone, Copy)]
+pub struct Line {
+    pub before: Option<Word>,
+    pub word: Word,
     pub count: usize,
 }
 
@@ -38,60 +47,144 @@ pub fn start(full: bool) -> Reading
     Reading {
         full,
         good: true,
-        naming: true,
-        before: 0,
-        word: 0,
+        before: None,
+        letters: 0,
+        word: None,
         form: 0,
-        value: 0,
-        some: false,
+        value: None,
         count: 0,
     }
 }
 
-// A line that cannot be read.
-fn bad(r: Reading) -> Reading
-    ensures { result ≡ bad r }
-{
-    let mut next = r;
-    next.good = false;
-    next
-}
+impl Reading {
+    // What the line says; nothing where it is bad.
+    #[tactic(auto, unfolding(crate::specs::Reader::line_of))]
+    pub fn line(self) -> Option<Line>
+        ensures { result ≡ line_of self }
+    {
+        if !self.good {
+            return None;
+        }
+        let word = self.word?;
+        Some(Line {
+            before: self.before,
+            word,
+            count: self.count,
+        })
+    }
 
-// A letter of a word.
-fn letter(r: Reading, b: u8) -> Reading
-    ensures { result ≡ letter r b }
-{
-    if b < 97 {
-        return bad(r);
+    // A line that cannot be read.
+    fn bad(self) -> Reading
+        ensures { result ≡ bad self }
+    {
+        Reading {
+            good: false,
+            ..self
+        }
     }
-    if 122 < b {
-        return bad(r);
-    }
-    if 0x80_0000_0000_0000 <= r.word {
-        return bad(r);
-    }
-    let mut next = r;
-    next.word = r.word * 32 + (b as u64 - 96);
-    next
-}
 
-// A digit of a number.
-fn digit(r: Reading, b: u8) -> Reading
-    ensures { result ≡ digit r b }
-{
-    let kind = r.form % 16;
-    let base = words::base_of(kind);
-    let d = digits::digit_of(b);
-    if !digits::fits(r.value, base, d, words::most_of(kind)) {
-        return bad(r);
+    // A letter of a word.
+    #[tactic(auto, unfolding(crate::specs::Reader::letter, crate::specs::Reader::grows))]
+    fn letter(self, b: u8) -> Reading
+        ensures { result ≡ letter self b }
+    {
+        match b {
+            b'a'..=b'z' if self.letters < 0x80_0000_0000_0000 => Reading {
+                letters: self.letters * 32 + u64::from(b - b'a' + 1),
+                ..self
+            },
+            _ => self.bad(),
+        }
     }
-    let mut next = r;
-    next.value = r.value * base + d;
-    next.some = true;
-    next
+
+    // A digit of a number.
+    #[tactic(auto, using(digits::proofs::NumberLaws::fits_within), unfolding(crate::specs::Reader::digit, digits::specs::Digits::grown_by))]
+    fn digit(self, b: u8) -> Reading
+        ensures { result ≡ digit self b }
+    {
+        let kind = self.form % 16;
+        let base = words::base_of(kind);
+        let value = self.value.unwrap_or(0);
+        match digits::digit_of(b) {
+            Some(digit) if digits::fits(value, base, digit, words::most_of(kind)) => Reading {
+                value: Some(value * base + digit),
+                ..self
+            },
+            _ => self.bad(),
+        }
+    }
+
+    // The word ends: it is one that is known, and its form is that of the fields to come.
+    #[tactic(auto, unfolding(crate::specs::Reader::close_word))]
+    fn close_word(self) -> Reading
+        ensures { result ≡ close_word self }
+    {
+        let Some(word) = Word::from_letters(self.letters) else {
+            return self.bad();
+        };
+        match words::form_of(self.full, self.before, word) {
+            Some(form) => Reading {
+                word: Some(word),
+                form,
+                ..self
+            },
+            None => self.bad(),
+        }
+    }
+
+    // The number ends.
+    #[tactic(auto, unfolding(crate::specs::Reader::close_number))]
+    fn close_number(self, values: &mut [u64]) -> Reading
+        ensures { (result, values.new) ≡ close_number self values.old }
+    {
+        let Some(value) = self.value else {
+            return self.bad();
+        };
+        Reading {
+            count: keep(values, self.count, value),
+            form: words::rest_of(self.form),
+            ..self
+        }
+    }
+
+    // A field ends.
+    #[tactic(auto, unfolding(crate::specs::Reader::close))]
+    fn close(self, values: &mut [u64]) -> Reading
+        ensures { (result, values.new) ≡ close self values.old }
+    {
+        match self.word {
+            None => self.close_word(),
+            Some(_) => self.close_number(values),
+        }
+    }
+
+    // Another field begins.
+    #[tactic(auto, unfolding(crate::specs::Reader::opened))]
+    fn next_field(self) -> Reading
+        ensures { result ≡ opened self }
+    {
+        if !self.good {
+            return self;
+        }
+        match self.form {
+            0 => self.bad(),
+            words::NAME => Reading {
+                before: self.word,
+                letters: 0,
+                word: None,
+                form: 0,
+                ..self
+            },
+            _ => Reading {
+                value: None,
+                ..self
+            },
+        }
+    }
 }
 
 // A value is kept where there is room for it.
+#[tactic(auto, unfolding(crate::specs::Reader::keep))]
 fn keep(values: &mut [u64], count: usize, v: u64) -> usize
     ensures { (result, values.new) ≡ keep count v values.old }
 {
@@ -102,104 +195,44 @@ fn keep(values: &mut [u64], count: usize, v: u64) -> usize
     count
 }
 
-// The word ends: its form is that of the fields to come.
-fn close_word(r: Reading) -> Reading
-    ensures { result ≡ close_word r }
-{
-    let form = words::form_of(r.full, r.before, r.word);
-    if form == words::UNKNOWN {
-        return bad(r);
-    }
-    let mut next = r;
-    next.form = form;
-    next
-}
-
-// The number ends.
-fn close_number(r: Reading, values: &mut [u64]) -> Reading
-    ensures { (result, values.new) ≡ close_number r values.old }
-{
-    if !r.some {
-        return bad(r);
-    }
-    let count = keep(values, r.count, r.value);
-    let mut next = r;
-    next.count = count;
-    next.form = words::rest_of(r.form);
-    next
-}
-
-// A field ends.
-fn close(r: Reading, values: &mut [u64]) -> Reading
-    ensures { (result, values.new) ≡ close r values.old }
-{
-    if r.naming {
-        return close_word(r);
-    }
-    close_number(r, values)
-}
-
-// Another field begins.
-fn next_field(r: Reading) -> Reading
-    ensures { result ≡ opened r }
-{
-    if !r.good {
-        return r;
-    }
-    if r.form == 0 {
-        return bad(r);
-    }
-    let mut next = r;
-    if r.form == words::NAME {
-        next.naming = true;
-        next.before = r.word;
-        next.word = 0;
-        next.form = 0;
-        return next;
-    }
-    next.naming = false;
-    next.value = 0;
-    next.some = false;
-    next
-}
-
 // One byte of the line.
+#[tactic(auto, unfolding(crate::specs::Reader::feed))]
 pub fn feed(r: Reading, values: &mut [u64], b: u8) -> Reading
     ensures { (result, values.new) ≡ feed r values.old b }
 {
     if !r.good {
         return r;
     }
-    if b == 9 {
-        return next_field(close(r, values));
+    if b == b'\t' {
+        return r.close(values).next_field();
     }
-    if r.naming {
-        return letter(r, b);
+    match r.word {
+        None => r.letter(b),
+        Some(_) => r.digit(b),
     }
-    digit(r, b)
 }
 
+#[tactic(auto, unfolding(crate::specs::Reader::complete))]
 fn is_complete(form: u64) -> bool
     ensures { result ≡ complete form }
 {
-    if form == 0 {
-        return true;
-    }
-    form == words::COUNTS
+    matches!(form, 0 | words::COUNTS)
 }
 
 // The line ends: every field that the word takes must have come.
+#[tactic(auto, unfolding(crate::specs::Reader::finish))]
 pub fn finish(r: Reading, values: &mut [u64]) -> Reading
     ensures { (result, values.new) ≡ finish r values.old }
 {
     if !r.good {
         return r;
     }
-    let last = close(r, values);
+    let last = r.close(values);
     if is_complete(last.form) {
-        return last;
+        last
+    } else {
+        last.bad()
     }
-    bad(last)
 }
 
 // Reads on from a place, to the line's end or to the end of what is there.
@@ -207,22 +240,19 @@ pub fn scan(bytes: &[u8], from: usize, r: Reading, values: &mut [u64]) -> Scanne
     ensures { (result, values.new) ≡ scan (drop from bytes.now) from r values.old }
 {
     let mut line = r;
-    let mut at = from;
-    while at < bytes.len() {
-        let b = bytes[at];
-        at += 1;
-        if b == 10 {
+    for at in from..bytes.len() {
+        if bytes[at] == b'\n' {
             return Scanned {
                 line: finish(line, values),
-                at,
+                at: at + 1,
                 ended: true,
             };
         }
-        line = feed(line, values, b);
+        line = feed(line, values, bytes[at]);
     }
     Scanned {
         line,
-        at,
+        at: from.max(bytes.len()),
         ended: false,
     }
 }

@@ -1,6 +1,6 @@
 -- The endpoint as words, one a field, in the order of its declaration. They are words of an endpoint where each fits its field; a flag is set by any
 -- word but 0. Each part of an endpoint stands here twice, as its words and as what words say of it, from the word on that follows the part before.
-use Rattle.std.specs.Prelude.{ℕ, ◌+◌, ◌^◌, ◌<◌, Bool, ◌&&◌, ◌||◌, List, [], ◌∷◌, ◌++◌, ◌≡◌, eqb, leb, ltb, length, get_or}
+use Rattle.std.specs.Prelude.{ℕ, ◌+◌, ◌^◌, ◌<◌, Bool, ◌&&◌, ◌||◌, List, [], ◌∷◌, ◌++◌, ◌≡◌, eqb, leb, ltb, length, get_or, Result, Ok, Err}
 use Rattle.base.specs.Fields.{flag}
 use Rattle.base.specs.First.{pick}
 use Rattle.ring.specs.declared.Position.{Position}
@@ -10,6 +10,8 @@ use Rattle.dock.specs.declared.Endpoint.{Endpoint}
 use Rattle.dock.specs.declared.Flags.{Flags}
 use Rattle.dock.specs.declared.Identity.{Identity}
 use Rattle.dock.specs.declared.Periodic.{Periodic}
+use Rattle.dock.specs.declared.Refusal.{Refusal}
+use Rattle.dock.specs.declared.Refusal.TheVariants.{Unfit}
 use Rattle.dock.specs.declared.Shape.{Shape}
 use Rattle.dock.specs.declared.Work.{Work}
 
@@ -163,7 +165,11 @@ periodic_fits w =
 unfoldable pub is_state : List ℕ → Bool
 is_state w = eqb (length w) state_words && identity_fits w && periodic_fits w
 
--- The same, as facts.
+-- The endpoint of words that are an endpoint's; else the refusal that answers 1.
+unfoldable pub parsed : List ℕ → Result Endpoint Refusal
+parsed w = pick (is_state w) (Ok (load w)) (Err Unfit)
+
+-- The test of the words, as facts.
 pub record Fitting (w : List ℕ) : Type 0 where
   pub size : length w ≡ state_words
   pub slot : get_or w identity_from 0 < 2 ^ 8

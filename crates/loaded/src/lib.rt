@@ -2,12 +2,15 @@
 // specs/State.antt has the words, also as `saved` writes them.
 //
 // The parts stand one behind the other, each from a word on: a part with more words moves those behind it, and nothing else.
+// Each is read field by field: the words are what a driver in C lends and saves, and the order of the fields is theirs.
 #![tactic(auto)]
 
-ghost use Rattle.std.specs.Prelude.{◌≡◌, length};
-ghost use Rattle.loaded.specs.State.{state_words, is_state, Fitting, load, position_at, shape_at, identity_at, periodic_at, account_at, flags_at, work_at};
+ghost use Rattle.std.specs.Prelude.{◌≡◌, Ok, Err};
+ghost use Rattle.dock.specs.declared.Refusal.TheVariants.{Unfit};
+ghost use Rattle.base.specs.First.{pick};
+ghost use Rattle.loaded.specs.State.{identity_fits, periodic_fits, is_state, parsed, position_at, shape_at, identity_at, periodic_at, account_at, flags_at, work_at};
 
-use dock::{Account, Endpoint, Flags, Identity, Periodic, Shape, Work};
+use dock::{Account, Endpoint, Flags, Identity, Periodic, Refusal, Shape, Work};
 use mask::Occupancy;
 use ring::Position;
 
@@ -29,8 +32,7 @@ pub const WORK: usize = FLAGS + 2;
 // The words of an endpoint.
 pub const STATE_WORDS: usize = WORK + 6;
 
-fn position(words: &[u64]) -> Position
-    requires { length words.now ≡ state_words }
+fn position(words: &[u64; STATE_WORDS]) -> Position
     ensures { result ≡ position_at words.now }
 {
     Position {
@@ -39,8 +41,7 @@ fn position(words: &[u64]) -> Position
     }
 }
 
-fn shape(words: &[u64]) -> Shape
-    requires { length words.now ≡ state_words }
+fn shape(words: &[u64; STATE_WORDS]) -> Shape
     ensures { result ≡ shape_at words.now }
 {
     Shape {
@@ -49,31 +50,30 @@ fn shape(words: &[u64]) -> Shape
     }
 }
 
-fn identity(words: &[u64]) -> Identity
-    requires { Fitting words.now }
-    ensures { result ≡ identity_at words.now }
+// Slot id and dci fit where they have one byte each.
+fn identity(words: &[u64; STATE_WORDS]) -> Result<Identity, Refusal>
+    ensures { result ≡ pick (identity_fits words.now) (Ok (identity_at words.now)) (Err Unfit) }
 {
-    Identity {
-        slot: words[IDENTITY] as u8,
-        dci: words[IDENTITY + 1] as u8,
+    Ok(Identity {
+        slot: u8::try_from(words[IDENTITY]).or(Err(Refusal::Unfit))?,
+        dci: u8::try_from(words[IDENTITY + 1]).or(Err(Refusal::Unfit))?,
         mask: words[IDENTITY + 2],
-    }
+    })
 }
 
-fn periodic(words: &[u64]) -> Periodic
-    requires { Fitting words.now }
-    ensures { result ≡ periodic_at words.now }
+// Max packet size and next frame fit where they have two bytes, burst and interval where they have one.
+fn periodic(words: &[u64; STATE_WORDS]) -> Result<Periodic, Refusal>
+    ensures { result ≡ pick (periodic_fits words.now) (Ok (periodic_at words.now)) (Err Unfit) }
 {
-    Periodic {
-        packet: words[PERIODIC] as u16,
-        burst: words[PERIODIC + 1] as u8,
-        interval: words[PERIODIC + 2] as u8,
-        frame: words[PERIODIC + 3] as u16,
-    }
+    Ok(Periodic {
+        packet: u16::try_from(words[PERIODIC]).or(Err(Refusal::Unfit))?,
+        burst: u8::try_from(words[PERIODIC + 1]).or(Err(Refusal::Unfit))?,
+        interval: u8::try_from(words[PERIODIC + 2]).or(Err(Refusal::Unfit))?,
+        frame: u16::try_from(words[PERIODIC + 3]).or(Err(Refusal::Unfit))?,
+    })
 }
 
-fn account(words: &[u64]) -> Account
-    requires { length words.now ≡ state_words }
+fn account(words: &[u64; STATE_WORDS]) -> Account
     ensures { result ≡ account_at words.now }
 {
     Account {
@@ -85,8 +85,7 @@ fn account(words: &[u64]) -> Account
     }
 }
 
-fn flags(words: &[u64]) -> Flags
-    requires { length words.now ≡ state_words }
+fn flags(words: &[u64; STATE_WORDS]) -> Flags
     ensures { result ≡ flags_at words.now }
 {
     Flags {
@@ -95,8 +94,7 @@ fn flags(words: &[u64]) -> Flags
     }
 }
 
-fn work(words: &[u64]) -> Work
-    requires { length words.now ≡ state_words }
+fn work(words: &[u64; STATE_WORDS]) -> Work
     ensures { result ≡ work_at words.now }
 {
     Work {
@@ -109,46 +107,29 @@ fn work(words: &[u64]) -> Work
     }
 }
 
-// The endpoint that the words say.
-pub fn load(words: &[u64]) -> Endpoint
-    requires { Fitting words.now }
-    ensures { result ≡ load words.now }
+// The endpoint that the words say, where they are an endpoint's: as many as it has, and each fits its field.
+// Inlined, since each exported call begins with it: called, it writes and reads the endpoint once more in memory, some 20 ns.
+#[inline(always)]
+#[tactic(auto, unfolding(crate::specs::State::is_state, crate::specs::State::load, crate::specs::State::parsed))]
+pub fn load(words: &[u64]) -> Result<Endpoint, Refusal>
+    ensures { result ≡ parsed words.now }
 {
-    Endpoint {
+    let words = words.as_array().ok_or(Refusal::Unfit)?;
+    Ok(Endpoint {
         at: position(words),
         shape: shape(words),
-        who: identity(words),
-        periodic: periodic(words),
+        who: identity(words)?,
+        periodic: periodic(words)?,
         account: account(words),
         flags: flags(words),
         work: work(words),
-    }
+    })
 }
 
-// Are they the words of an endpoint: as many as it has, and each fits its field?
+// Are they the words of an endpoint?
+#[tactic(auto, unfolding(crate::specs::State::parsed))]
 pub fn is_state(words: &[u64]) -> bool
     ensures { result ≡ is_state words.now }
 {
-    if words.len() != STATE_WORDS {
-        return false;
-    }
-    if words[IDENTITY] >= 0x100 {
-        return false;
-    }
-    if words[IDENTITY + 1] >= 0x100 {
-        return false;
-    }
-    if words[PERIODIC] >= 0x1_0000 {
-        return false;
-    }
-    if words[PERIODIC + 1] >= 0x100 {
-        return false;
-    }
-    if words[PERIODIC + 2] >= 0x100 {
-        return false;
-    }
-    if words[PERIODIC + 3] >= 0x1_0000 {
-        return false;
-    }
-    true
+    load(words).is_ok()
 }

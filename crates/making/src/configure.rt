@@ -3,7 +3,7 @@ ghost use Rattle.std.specs.Prelude.{◌≡◌};
 ghost use Rattle.dock.specs.State.{with_periodic};
 ghost use Rattle.dock.specs.Configure.{configure};
 
-use dock::{Changed, Endpoint, Outcome, Periodic};
+use dock::{After, Endpoint, Periodic};
 
 // The endpoint with other settings.
 fn with_periodic(e: Endpoint, p: Periodic) -> Endpoint
@@ -14,24 +14,25 @@ fn with_periodic(e: Endpoint, p: Periodic) -> Endpoint
     next
 }
 
-pub fn configure_periodic(e: Endpoint, packet: u16, burst: u8, interval: u8) -> Changed
+#[tactic(auto, unfolding(dock::specs::Configure::configure))]
+pub fn configure_periodic(e: Endpoint, packet: u16, burst: u8, interval: u8) -> After<()>
     ensures { result ≡ configure e packet burst interval }
 {
-    let no = checks::plain_no(e);
-    if no != 0 {
-        return Changed {
-            answer: Outcome::Refused(no),
+    let checked = checks::plain_no(e);
+    if let Err(refusal) = checked {
+        return After {
+            answer: Err(refusal),
             endpoint: e,
         };
     }
     let settings = Periodic {
         packet,
         burst,
-        interval: steps::at_least_one(interval),
+        interval: interval.max(1),
         frame: e.periodic.frame,
     };
-    Changed {
-        answer: Outcome::Done,
+    After {
+        answer: Ok(()),
         endpoint: with_periodic(e, settings),
     }
 }

@@ -1,28 +1,26 @@
 // Making a ring: "Making zeroes the ring, empties all tables".
 ghost use Rattle.std.specs.Prelude.{◌≡◌};
 ghost use Rattle.dock.specs.State.{fresh, blank};
-ghost use Rattle.dock.specs.Make.{sized, make_no, zeros, make};
+ghost use Rattle.dock.specs.Refusals.{verdict};
+ghost use Rattle.dock.specs.Make.{sized, make_no, make};
 
-use dock::{Account, Changed, Endpoint, Flags, Identity, Outcome, Periodic, Shape};
+use dock::{Account, After, Endpoint, Flags, Identity, Periodic, Refusal, Shape, refuse};
+use mask::Occupancy;
 use ring::Position;
 
 // The tables of a ring of so many slots have their sizes.
+#[tactic(auto, unfolding(dock::specs::Make::sized))]
 fn are_sized(slots: usize, ring: usize, finished: usize, records: usize, packets: usize) -> bool
     ensures { result ≡ sized slots ring finished records packets }
 {
-    if !limits::is_sized(ring, slots) {
-        return false;
-    }
-    if !limits::is_sized(finished, slots) {
-        return false;
-    }
-    if records != sizes::RECORDS_SIZE {
-        return false;
-    }
-    packets == sizes::PACKETS_SIZE
+    limits::is_sized(ring, slots)
+        && limits::is_sized(finished, slots)
+        && records == sizes::RECORDS_SIZE
+        && packets == sizes::PACKETS_SIZE
 }
 
 // "Making knows only 13, then 1."
+#[tactic(auto, unfolding(dock::specs::Make::make_no, dock::specs::Make::make_tests))]
 fn make_no(
     ring: usize,
     finished: usize,
@@ -30,14 +28,13 @@ fn make_no(
     packets: usize,
     shape: Shape,
     who: Identity,
-) -> u32
-    ensures { result ≡ make_no ring finished records packets shape who }
+) -> Result<(), Refusal>
+    ensures { result ≡ verdict (make_no ring finished records packets shape who) }
 {
-    let no = base::earlier(0, !limits::limits_hold(shape, who), 13);
-    base::earlier(
-        no,
+    refuse(!limits::limits_hold(shape, who), Refusal::OutsideLimits)?;
+    refuse(
         !are_sized(shape.slots, ring, finished, records, packets),
-        1,
+        Refusal::Unfit,
     )
 }
 
@@ -64,7 +61,7 @@ pub fn blank() -> Endpoint
         },
         account: Account {
             next: 0,
-            occupancy: mask::none(),
+            occupancy: Occupancy::none(),
             outstanding: 0,
         },
         flags: Flags {
@@ -94,7 +91,7 @@ fn fresh(shape: Shape, who: Identity) -> Endpoint
         },
         account: Account {
             next: 1,
-            occupancy: mask::none(),
+            occupancy: Occupancy::none(),
             outstanding: 0,
         },
         flags: Flags {
@@ -105,27 +102,6 @@ fn fresh(shape: Shape, who: Identity) -> Endpoint
     }
 }
 
-// A table of words becomes 0.
-fn clear32(table: &mut [u32])
-    ensures { table.new ≡ zeros table.old }
-{
-    let mut i: usize = 0;
-    while i < table.len() {
-        table[i] = 0;
-        i += 1;
-    }
-}
-
-fn clear64(table: &mut [u64])
-    ensures { table.new ≡ zeros table.old }
-{
-    let mut i: usize = 0;
-    while i < table.len() {
-        table[i] = 0;
-        i += 1;
-    }
-}
-
 pub fn make(
     ring: &mut [u32],
     finished: &mut [u32],
@@ -133,10 +109,10 @@ pub fn make(
     packets: &mut [u64],
     shape: Shape,
     who: Identity,
-) -> Changed
+) -> After<()>
     ensures { (result, ring.new, finished.new, records.new, packets.new) ≡ make ring.old finished.old records.old packets.old shape who }
 {
-    let no = make_no(
+    let checked = make_no(
         ring.len(),
         finished.len(),
         records.len(),
@@ -144,18 +120,18 @@ pub fn make(
         shape,
         who,
     );
-    if no != 0 {
-        return Changed {
-            answer: Outcome::Refused(no),
+    if let Err(refusal) = checked {
+        return After {
+            answer: Err(refusal),
             endpoint: blank(),
         };
     }
-    clear32(ring);
-    clear32(finished);
-    clear64(records);
-    clear64(packets);
-    Changed {
-        answer: Outcome::Done,
+    ring.fill(0);
+    finished.fill(0);
+    records.fill(0);
+    packets.fill(0);
+    After {
+        answer: Ok(()),
         endpoint: fresh(shape, who),
     }
 }

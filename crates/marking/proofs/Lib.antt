@@ -3,5 +3,4 @@ pub mod FitLaws
 pub mod KeepLaws
 pub mod MirrorLaws
 pub mod PlaceLaws
-pub mod TurnLaws
 pub mod WalkLaws

@@ -1,5 +1,6 @@
 -- The walk over packet records is the dock's walk over words: where the block's packets are those that a record's words say, the walk ends as the dock's
 -- definition says, and its packets, put back into their words, are the words that the definition leaves. Assumes nothing.
+use Rattle.std.specs.Prelude.{Option, Some, None}
 use Prim.Native.Nat.{ℕ, zero, suc, ◌+◌, ◌-◌, ◌*◌, ◌≤◌, ◌<◌}
 use mathlib.Core.Bool.{Bool, true, false, false≢true}
 use mathlib.Core.List.{List}
@@ -17,8 +18,6 @@ use Rattle.base.proofs.Decide.{if_so}
 use Rattle.sizes.specs.Sizes.{most_slots, record_count, packet_count, packets_size}
 use Rattle.trb.specs.declared.Words.{Words}
 use Rattle.finished.specs.Finished.{finished_at}
-use Rattle.finished.specs.declared.Finished.{Finished}
-use Rattle.finished.specs.declared.Finished.TheVariants as place
 use Rattle.packets.specs.Packets.{packet_at, put_packet}
 use Rattle.packets.specs.declared.Packet.{Packet}
 use Rattle.records.specs.declared.Record.{Record}
@@ -28,9 +27,10 @@ use Rattle.dock.proofs.ReclaimNeedLaws.{first_place}
 use Rattle.dock.proofs.RetireLaws.{picked}
 use Rattle.dock.proofs.ReclaimSettleLaws.{close_behind}
 use Rattle.marking.specs.declared.Block.{Block}
+use Rattle.marking.specs.declared.Ended.TheVariants.{Open, Found}
 use Rattle.marking.specs.declared.Standing.{Standing}
 use Rattle.marking.specs.declared.Turned.{Turned}
-use Rattle.marking.specs.Marking.{is_open, is_found, begin_of, onward, again, broken, after, closed_of, credit_of, worth_by, seen_of, turn_of, nowhere, turn_at, turns, Walked, walked}
+use Rattle.marking.specs.Marking.{begin_of, onward, again, broken, after, closed_of, credit_of, worth_by, seen_of, turn_of, nowhere, turn_at, turns, Walked, walked}
 use Rattle.marking.specs.Words.{swept_by, keep_one, keep_below}
 use Rattle.marking.proofs.FitLaws.{by_fitting}
 use Rattle.marking.proofs.KeepLaws.{set_same, Mirrors, kept_is, kept_marked, kept_put}
@@ -68,10 +68,10 @@ module _ (slots : ℕ) (finished : List ℕ) (v : Record) (number : ℕ) (inside
 
   -- Where the walk stands at packet k, while it looks for the last packet and while it closes.
   abbrev open_at : ℕ → Standing
-  open_at k = record { at = first + k; end = first + v.count; first = first; place = place_of slots v.place k; slots = slots; ended = is_open; code = 0 }
+  open_at k = record { at = first + k; end = first + v.count; first = first; place = place_of slots v.place k; slots = slots; ended = Open }
 
   abbrev closing_at : ℕ → ℕ → ℕ → Standing
-  closing_at k p code = record { at = first + k; end = first + v.count; first = first; place = p; slots = slots; ended = is_found; code = code }
+  closing_at k p code = record { at = first + k; end = first + v.count; first = first; place = p; slots = slots; ended = Found code }
 
   -- The block's packets mirror the record's words, and those from k on are as the words say.
   record Mirror (k : ℕ) (ps : List Packet) : Type 0 where
@@ -190,7 +190,7 @@ module _ (slots : ℕ) (finished : List ℕ) (v : Record) (number : ℕ) (inside
     abbrev p : Packet
     p = held ps k
 
-    abbrev f : Finished
+    abbrev f : Option Words
     f = finished_at finished (place_of slots v.place k)
 
     read : packet_at (words ps) number k ≡ p
@@ -216,7 +216,7 @@ module _ (slots : ℕ) (finished : List ℕ) (v : Record) (number : ℕ) (inside
         word_clear : (packet_at l number k).marked ≡ false
         word_clear = sym (ap (λ (x : Packet). x.marked) (m.ahead k (omega arith) under)) ∙ clear
 
-        module _ (w : Words) (here : f ≡ place.Event w) where
+        module _ (w : Words) (here : f ≡ Some w) where
           seen : (x : Worth) → worth (code_of w) p.requested (remaining_of w) ≡ x → turn_at (open_at k) ps finished ≡ worth_by x p (code_of w) (open_at k)
           unfolding seen_of
           seen x is = turned ∙ rw (here, is)
@@ -253,7 +253,7 @@ module _ (slots : ℕ) (finished : List ℕ) (v : Record) (number : ℕ) (inside
             by_last true e =
                 let start : first ≡ first + 0 = omega arith in
                 let last = eqb-true (k + 1) v.count e in
-                ap (λ (s : Standing). comes (turns (fuel - 1) s qs finished)) (ap (λ (x : ℕ). record { at = x; end = first + v.count; first = first; place = place_of slots v.place k; slots = slots; ended = is_found; code = code_of w }) start)
+                ap (λ (s : Standing). comes (turns (fuel - 1) s qs finished)) (ap (λ (x : ℕ). record { at = x; end = first + v.count; first = first; place = place_of slots v.place k; slots = slots; ended = Found (code_of w) }) start)
                 ∙ closing (place_of slots v.place k) (code_of w) (words qs) v.count 0 (fuel - 1) qs (omega arith) (omega arith) (mirror v.count under) (sym (close_none (words qs) number))
                 ∙ ap (λ (x : List ℕ). (found (code_of w), x)) (last_closed last ∙ ap (λ (x : List ℕ). close_below k x number) put_is)
             by_last false e =
@@ -277,10 +277,10 @@ module _ (slots : ℕ) (finished : List ℕ) (v : Record) (number : ℕ) (inside
               ∙ by_last n is (eqb (k + 1) v.count) refl
               ∙ ap end (sym read)
 
-        by_place : (g : Finished) → f ≡ g → comes (turns fuel (open_at k) ps finished) ≡ swept_at slots finished v number g k (words ps) more
+        by_place : (g : Option Words) → f ≡ g → comes (turns fuel (open_at k) ps finished) ≡ swept_at slots finished v number g k (words ps) more
         unfolding seen_of
-        by_place place.Nothing here = passed (turned ∙ rw here)
-        by_place (place.Event w) here =
+        by_place None here = passed (turned ∙ rw here)
+        by_place (Some w) here =
             by_worth w here (worth (code_of w) p.requested (remaining_of w)) refl
             ∙ ap (λ (x : Packet). dock_swept slots finished v number (worth (code_of w) x.requested (remaining_of w)) (code_of w) k (words ps) more) (sym read)
 
@@ -322,8 +322,8 @@ module _ (slots : ℕ) (finished : List ℕ) (v : Record) (number : ℕ) (inside
         let fits = if_so (by_fitting (length ps) (length finished) its) (record { most = most; place = low; table = table; within = wide }) in
         let start : first ≡ first + 0 = omega arith in
         rw fits
-        (ap (λ (x : ℕ). record { at = x; end = first + v.count; first = first; place = v.place; slots = slots; ended = is_open; code = 0 }) start
-        ∙ ap (λ (x : ℕ). record { at = first + 0; end = first + v.count; first = first; place = x; slots = slots; ended = is_open; code = 0 }) (first_place slots v.place low))
+        (ap (λ (x : ℕ). record { at = x; end = first + v.count; first = first; place = v.place; slots = slots; ended = Open }) start
+        ∙ ap (λ (x : ℕ). record { at = first + 0; end = first + v.count; first = first; place = x; slots = slots; ended = Open }) (first_place slots v.place low))
 
     mirrored : Mirror 0 ps
     mirrored = record { wide = wide; mirrors = λ j u. inl (same j u); ahead = λ j z u. same j u }

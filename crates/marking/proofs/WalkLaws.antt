@@ -1,5 +1,7 @@
 -- What a loop over the turns asks of the rule: how the turns go on and how they end, that each turn leaves fewer, that the places stay in the finished
 -- table and the end where it is. Assumes nothing.
+use Rattle.std.specs.Prelude.{Option, Some, None}
+use Rattle.trb.specs.declared.Words.{Words}
 use Prim.Native.Nat.{ℕ, zero, suc, ◌+◌, ◌-◌, ◌*◌, ◌≤◌, ◌<◌}
 use mathlib.Core.Bool.{Bool, true, false}
 use mathlib.Core.List.{List}
@@ -12,8 +14,6 @@ use lib.ListN.{length, get_or, set}
 use lib.Seq.{get_or-set_other}
 use Rattle.base.specs.First.{pick}
 use Rattle.finished.specs.Finished.{finished_at}
-use Rattle.finished.specs.declared.Finished.{Finished}
-use Rattle.finished.specs.declared.Finished.TheVariants as place
 use Rattle.packets.specs.declared.Packet.{Packet}
 use Rattle.dock.specs.Reclaim.{code_of, remaining_of}
 use Rattle.dock.specs.Worth.{Worth, bytes, refused, worth}
@@ -40,7 +40,7 @@ module _ (s : Standing) (ps : List Packet) (finished : List ℕ) where
 
 -- The turns that are left at most: those to the end, and where the last packet is not found yet those from the first packet on again.
 unfoldable pub left_turns : Standing → ℕ
-left_turns s = pick (eqb s.ended is_found) (s.end - s.at) ((s.end - s.at) + (s.end - s.first))
+left_turns s = pick (is_found s.ended) (s.end - s.at) ((s.end - s.at) + (s.end - s.first))
 
 -- The first packet and the end stay, the walk stands between them, its places lie in the table, and fewer turns are left.
 pub record Kept (s : Standing) (finished : ℕ) (t : Standing) : Type 0 where
@@ -55,11 +55,11 @@ behind_low slots p low = picked (λ (n : ℕ). n + 1 < slots) (eqb (p + 2) slots
 
 module _ (s : Standing) (finished : ℕ) (low : s.at < s.end) (f : Fine s finished) where
   -- A walk that has found the last packet closes one packet more.
-  closing : s.ended ≡ is_found → Kept s finished (moved_to s (s.at + 1) s.place)
+  closing : is_found s.ended ≡ true → Kept s finished (moved_to s (s.at + 1) s.place)
   unfolding left_turns
   closing is = record { end = refl; first = refl; from = λ h. omega arith; fine = record { place = f.place; table = f.table }; fewer = rw is (omega arith) }
 
-  module _ (searching : eqb s.ended is_found ≡ false) where
+  module _ (searching : is_found s.ended ≡ false) where
     on_kept : Kept s finished (onward s)
     unfolding left_turns
     on_kept = record { end = refl; first = refl; from = λ h. omega arith; fine = record { place = behind_low s.slots s.place f.place; table = f.table }; fewer = rw searching (omega arith) }
@@ -81,21 +81,21 @@ module _ (s : Standing) (finished : ℕ) (low : s.at < s.end) (f : Fine s finish
     worth_kept refused p code = broken_kept code
     worth_kept (bytes n) p code = credit_kept p n code
 
-    seen_kept : (g : Finished) (p : Packet) → Kept s finished (seen_of g p s).standing
+    seen_kept : (g : Option Words) (p : Packet) → Kept s finished (seen_of g p s).standing
     unfolding seen_of
-    seen_kept place.Nothing p = on_kept
-    seen_kept (place.Event w) p = worth_kept (worth (code_of w) p.requested (remaining_of w)) p (code_of w)
+    seen_kept None p = on_kept
+    seen_kept (Some w) p = worth_kept (worth (code_of w) p.requested (remaining_of w)) p (code_of w)
 
-  pub turn_keeps : (p : Packet) (g : Finished) → Kept s finished (turn_of p g s).standing
+  pub turn_keeps : (p : Packet) (g : Option Words) → Kept s finished (turn_of p g s).standing
   unfolding turn_of
   turn_keeps p g =
-      picked (λ (t : Turned). Kept s finished t.standing) (eqb s.ended is_found) _ _ (λ t. closing (eqb-true _ _ t))
+      picked (λ (t : Turned). Kept s finished t.standing) (is_found s.ended) _ _ (λ t. closing t)
       (λ t. picked (λ (x : Turned). Kept s finished x.standing) p.marked _ _ (λ u. on_kept t) (λ u. seen_kept t g p))
 
 -- Where turns are left to do, one is counted.
 pub some_left : (s : Standing) → s.at < s.end → 1 ≤ left_turns s
 unfolding left_turns
-some_left s low = picked (λ (n : ℕ). 1 ≤ n) (eqb s.ended is_found) _ _ (λ t. omega arith) (λ t. omega arith)
+some_left s low = picked (λ (n : ℕ). 1 ≤ n) (is_found s.ended) _ _ (λ t. omega arith) (λ t. omega arith)
 
 -- ---- the start
 
@@ -112,7 +112,7 @@ module _ (packets finished : ℕ) (b : Block) where
   pub begin_left : left_turns (begin_of packets finished b) ≤ 2 * b.count
   unfolding begin_of left_turns
   begin_left =
-      picked (λ (s : Standing). pick (eqb s.ended is_found) (s.end - s.at) ((s.end - s.at) + (s.end - s.first)) ≤ 2 * b.count) (fitting packets finished b) (started b) unfit
+      picked (λ (s : Standing). pick (is_found s.ended) (s.end - s.at) ((s.end - s.at) + (s.end - s.first)) ≤ 2 * b.count) (fitting packets finished b) (started b) unfit
       (λ t. omega arith) (λ t. omega arith)
 
 -- ---- every other packet

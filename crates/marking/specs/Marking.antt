@@ -1,14 +1,15 @@
 -- The walk over packet records, turn by turn: what a turn leaves of a packet and where the walk stands then, and the turns in order.
-use Rattle.std.specs.Prelude.{ℕ, zero, suc, ◌+◌, ◌*◌, ◌≤◌, ◌<◌, Bool, false, ◌&&◌, List, eqb, ltb, leb, length, get_or, set}
+use Rattle.std.specs.Prelude.{ℕ, zero, suc, ◌+◌, ◌*◌, ◌≤◌, ◌<◌, Bool, true, false, ◌&&◌, List, eqb, ltb, leb, length, get_or, set, Option, Some, None}
+use Rattle.trb.specs.declared.Words.{Words}
 use Rattle.base.specs.First.{pick}
 use Rattle.sizes.specs.Sizes.{most_slots}
 use Rattle.finished.specs.Finished.{finished_at}
-use Rattle.finished.specs.declared.Finished.{Finished}
-use Rattle.finished.specs.declared.Finished.TheVariants as place
 use Rattle.packets.specs.declared.Packet.{Packet}
 use Rattle.dock.specs.Reclaim.{code_of, remaining_of, counted}
 use Rattle.dock.specs.Worth.{Worth, bytes, refused, worth}
 use Rattle.marking.specs.declared.Block.{Block}
+use Rattle.marking.specs.declared.Ended.{Ended}
+use Rattle.marking.specs.declared.Ended.TheVariants.{Open, Refused, Found, Unfit}
 use Rattle.marking.specs.declared.Standing.{Standing}
 use Rattle.marking.specs.declared.Turned.{Turned}
 
@@ -18,18 +19,12 @@ use Rattle.marking.specs.declared.Turned.{Turned}
 abbrev pub behind : ℕ → ℕ → ℕ
 behind slots place = pick (eqb (place + 2) slots) 0 (place + 1)
 
--- How a walk ended: not yet, at a refused code, at the last packet, or not begun, for its block does not fit.
-abbrev pub is_open : ℕ
-is_open = 0
-
-abbrev pub is_refused : ℕ
-is_refused = 1
-
-abbrev pub is_found : ℕ
-is_found = 2
-
-abbrev pub is_unfit : ℕ
-is_unfit = 3
+-- A walk that ended at the last packet; the others ended not yet, at a refused code, or are not begun, for their block does not fit.
+abbrev pub is_found : Ended → Bool
+is_found Open = false
+is_found (Refused code) = false
+is_found (Found code) = true
+is_found Unfit = false
 
 -- The block lies in the table of packets, and its places are slots 0 to L-2 of the finished table.
 unfoldable pub fitting : ℕ → ℕ → Block → Bool
@@ -37,10 +32,10 @@ fitting packets finished b =
     leb b.slots most_slots && ltb (b.place + 1) b.slots && eqb finished (4 * b.slots) && leb (b.first + b.count) packets
 
 abbrev pub started : Block → Standing
-started b = record { at = b.first; end = b.first + b.count; first = b.first; place = b.place; slots = b.slots; ended = is_open; code = 0 }
+started b = record { at = b.first; end = b.first + b.count; first = b.first; place = b.place; slots = b.slots; ended = Open }
 
 abbrev pub unfit : Standing
-unfit = record { at = 0; end = 0; first = 0; place = 0; slots = 0; ended = is_unfit; code = 0 }
+unfit = record { at = 0; end = 0; first = 0; place = 0; slots = 0; ended = Unfit }
 
 unfoldable pub begin_of : ℕ → ℕ → Block → Standing
 begin_of packets finished b = pick (fitting packets finished b) (started b) unfit
@@ -54,10 +49,10 @@ pub record Fine (s : Standing) (finished : ℕ) : Type 0 where
 
 -- The walk stands elsewhere.
 abbrev pub moved_to : Standing → ℕ → ℕ → Standing
-moved_to s at place = record { at = at; end = s.end; first = s.first; place = place; slots = s.slots; ended = s.ended; code = s.code }
+moved_to s at place = record { at = at; end = s.end; first = s.first; place = place; slots = s.slots; ended = s.ended }
 
-abbrev pub ended_by : Standing → ℕ → ℕ → ℕ → Standing
-ended_by s at ended code = record { at = at; end = s.end; first = s.first; place = s.place; slots = s.slots; ended = ended; code = code }
+abbrev pub ended_by : Standing → ℕ → Ended → Standing
+ended_by s at ended = record { at = at; end = s.end; first = s.first; place = s.place; slots = s.slots; ended = ended }
 
 -- It goes on behind the packet,
 abbrev pub onward : Standing → Standing
@@ -65,11 +60,11 @@ onward s = moved_to s (s.at + 1) (behind s.slots s.place)
 
 -- it starts again at the first packet, to close those without an event,
 abbrev pub again : Standing → ℕ → Standing
-again s code = ended_by s s.first is_found code
+again s code = ended_by s s.first (Found code)
 
 -- or it ends.
 abbrev pub broken : Standing → ℕ → Standing
-broken s code = ended_by s s.end is_refused code
+broken s code = ended_by s s.end (Refused code)
 
 abbrev pub after : Packet → Standing → Turned
 after p s = record { packet = p; standing = s }
@@ -87,13 +82,13 @@ worth_by refused p code s = after p (broken s code)
 worth_by (bytes n) p code s = credit_of p n code s
 
 -- A packet that is not marked, by what stands at its place.
-unfoldable pub seen_of : Finished → Packet → Standing → Turned
-seen_of place.Nothing p s = after p (onward s)
-seen_of (place.Event w) p s = worth_by (worth (code_of w) p.requested (remaining_of w)) p (code_of w) s
+unfoldable pub seen_of : Option Words → Packet → Standing → Turned
+seen_of None p s = after p (onward s)
+seen_of (Some w) p s = worth_by (worth (code_of w) p.requested (remaining_of w)) p (code_of w) s
 
-unfoldable pub turn_of : Packet → Finished → Standing → Turned
+unfoldable pub turn_of : Packet → Option Words → Standing → Turned
 turn_of p f s =
-    pick (eqb s.ended is_found) (after (closed_of p) (moved_to s (s.at + 1) s.place))
+    pick (is_found s.ended) (after (closed_of p) (moved_to s (s.at + 1) s.place))
     (pick p.marked (after p (onward s)) (seen_of f p s))
 
 -- ---- the turns in order

@@ -1,15 +1,22 @@
 -- The packets of a record as words and as packet records: those that a walk has marked go back into their words.
-use Rattle.std.specs.Prelude.{ℕ, zero, suc, List, eqb}
+use Rattle.std.specs.Prelude.{ℕ, zero, suc, List}
 use Rattle.base.specs.First.{pick}
 use Rattle.packets.specs.Packets.{packet_at, put_packet}
 use Rattle.packets.specs.declared.Packet.{Packet}
 use Rattle.dock.specs.Reclaim.{Swept, unfinished, fatal, found}
+use Rattle.marking.specs.declared.Ended.{Ended}
+use Rattle.marking.specs.declared.Ended.TheVariants.{Open, Refused, Found, Unfit}
 use Rattle.marking.specs.declared.Standing.{Standing}
-use Rattle.marking.specs.Marking.{is_refused, is_found}
 
--- How a walk ended, as the dock's definition has it.
+-- How a walk ended, as the dock's definition has it: with nothing told yet, at a refused code, or at the last packet.
+abbrev pub swept_of : Ended → Swept
+swept_of Open = unfinished
+swept_of (Refused code) = fatal code
+swept_of (Found code) = found code
+swept_of Unfit = unfinished
+
 abbrev pub swept_by : Standing → Swept
-swept_by s = pick (eqb s.ended is_refused) (fatal s.code) (pick (eqb s.ended is_found) (found s.code) unfinished)
+swept_by s = swept_of s.ended
 
 -- Packet k is put into its word where it is marked and its word is not.
 unfoldable pub keep_one : List ℕ → ℕ → ℕ → Packet → List ℕ

@@ -10,10 +10,10 @@ ghost use Rattle.std.specs.Prelude.{◌≡◌, ◌+◌, ◌<◌, length};
 ghost use Rattle.finished.specs.Finished.{finished_at};
 ghost use Rattle.marking.specs.Marking.{behind, fitting, begin_of, onward, closed_of, credit_of, seen_of, turn_of, Fine};
 
-use finished::Finished;
 use packets::Packet;
 use sizes::PACKET_COUNT;
-use worth::{Value, value_of};
+use trb::Words;
+use worth::value_of;
 
 // The packets of a request: where they stand in the table, how many, the place of the first one's TRB, and the ring's slots.
 #[derive(Clone, Copy)]
@@ -24,16 +24,16 @@ pub struct Block {
     pub slots: usize,
 }
 
-// How a walk has ended, as far as it has come.
-pub const OPEN: u32 = 0;
+// How a walk has ended, as far as it has come: not yet; at a refused code, or at the last packet, with the event's code; or not begun, for its block does not fit.
+#[derive(Clone, Copy)]
+pub enum Ended {
+    Open,
+    Refused(u32),
+    Found(u32),
+    Unfit,
+}
 
-pub const REFUSED: u32 = 1;
-
-pub const FOUND: u32 = 2;
-
-pub const UNFIT: u32 = 3;
-
-// Where a walk stands: the next packet and the place of its TRB; the first packet and the end; and how it ended, with the event's code.
+// Where a walk stands: the next packet and the place of its TRB; the first packet and the end; and how it ended.
 #[derive(Clone, Copy)]
 pub struct Standing {
     pub at: usize,
@@ -41,8 +41,7 @@ pub struct Standing {
     pub first: usize,
     pub place: usize,
     pub slots: usize,
-    pub ended: u32,
-    pub code: u32,
+    pub ended: Ended,
 }
 
 // A packet after its turn, and where the walk stands then.
@@ -57,38 +56,24 @@ fn next_place(slots: usize, place: usize) -> usize
     requires { place + 1 < slots }
     ensures { result ≡ behind slots place }
 {
-    if place + 2 == slots {
-        return 0;
-    }
-    place + 1
+    if place + 2 == slots { 0 } else { place + 1 }
 }
 
 // The block lies in the table, and its places in the finished table.
+#[tactic(auto, unfolding(crate::specs::Marking::fitting))]
 fn is_fitting(packets: usize, finished: usize, b: Block) -> bool
     ensures { result ≡ fitting packets finished b }
 {
-    if b.slots > sizes::MOST_SLOTS {
-        return false;
-    }
-    if b.place >= b.slots {
-        return false;
-    }
-    if b.place + 1 == b.slots {
-        return false;
-    }
-    if finished != 4 * b.slots {
-        return false;
-    }
-    if b.first > packets {
-        return false;
-    }
-    if b.count > packets - b.first {
-        return false;
-    }
-    true
+    b.slots <= sizes::MOST_SLOTS
+        && b.place < b.slots
+        && b.place + 1 != b.slots
+        && finished == 4 * b.slots
+        && b.first <= packets
+        && b.count <= packets - b.first
 }
 
 // The start of a walk; one over a block that does not fit has no packets.
+#[tactic(auto, unfolding(crate::specs::Marking::begin_of, crate::specs::Marking::fitting))]
 pub fn begin(packets: usize, finished: usize, b: Block) -> Standing
     ensures { result ≡ begin_of packets finished b }
 {
@@ -99,8 +84,7 @@ pub fn begin(packets: usize, finished: usize, b: Block) -> Standing
             first: b.first,
             place: b.place,
             slots: b.slots,
-            ended: OPEN,
-            code: 0,
+            ended: Ended::Open,
         };
     }
     Standing {
@@ -109,8 +93,7 @@ pub fn begin(packets: usize, finished: usize, b: Block) -> Standing
         first: 0,
         place: 0,
         slots: 0,
-        ended: UNFIT,
-        code: 0,
+        ended: Ended::Unfit,
     }
 }
 
@@ -119,13 +102,15 @@ fn pass(s: Standing) -> Standing
     requires { (s.at < s.end) × (s.place + 1 < s.slots) }
     ensures { result ≡ onward s }
 {
-    let mut next = s;
-    next.at = s.at + 1;
-    next.place = next_place(s.slots, s.place);
-    next
+    Standing {
+        at: s.at + 1,
+        place: next_place(s.slots, s.place),
+        ..s
+    }
 }
 
 // A packet without an event counts 0 where the last packet was found.
+#[tactic(auto, unfolding(crate::specs::Marking::closed_of))]
 fn close(p: Packet) -> Packet
     ensures { result ≡ closed_of p }
 {
@@ -133,21 +118,22 @@ fn close(p: Packet) -> Packet
         return p;
     }
     Packet {
-        requested: p.requested,
         actual: 0,
         marked: true,
+        ..p
     }
 }
 
 // A packet counts its bytes; with the last one the walk starts again, to close the others.
+#[tactic(auto, unfolding(crate::specs::Marking::credit_of))]
 fn credit(p: Packet, size: u32, code: u32, s: Standing) -> Turned
     requires { (s.at < s.end) × (s.place + 1 < s.slots) }
     ensures { result ≡ credit_of p size code s }
 {
     let packet = Packet {
-        requested: p.requested,
         actual: size,
         marked: true,
+        ..p
     };
     if s.at + 1 != s.end {
         return Turned {
@@ -155,54 +141,54 @@ fn credit(p: Packet, size: u32, code: u32, s: Standing) -> Turned
             standing: pass(s),
         };
     }
-    let mut standing = s;
-    standing.at = s.first;
-    standing.ended = FOUND;
-    standing.code = code;
-    Turned { packet, standing }
+    Turned {
+        packet,
+        standing: Standing {
+            at: s.first,
+            ended: Ended::Found(code),
+            ..s
+        },
+    }
 }
 
 // A packet that is not marked, by what stands at its place.
-fn look(f: Finished, p: Packet, s: Standing) -> Turned
+#[tactic(auto, unfolding(crate::specs::Marking::seen_of))]
+fn look(f: Option<Words>, p: Packet, s: Standing) -> Turned
     requires { (s.at < s.end) × (s.place + 1 < s.slots) }
     ensures { result ≡ seen_of f p s }
 {
     match f {
-        Finished::Nothing => Turned {
+        None => Turned {
             packet: p,
             standing: pass(s),
         },
-        Finished::Event(w) => {
+        Some(w) => {
             let event = event::event_of(w);
-            let value = value_of(event.code, p.requested, event.remaining);
-            match value {
-                Value::Bytes(n) => credit(p, n, event.code, s),
-                Value::Refused => {
-                    let mut standing = s;
-                    standing.at = s.end;
-                    standing.ended = REFUSED;
-                    standing.code = event.code;
-                    Turned {
-                        packet: p,
-                        standing,
-                    }
-                }
+            match value_of(event.code, p.requested, event.remaining) {
+                Some(n) => credit(p, n, event.code, s),
+                None => Turned {
+                    packet: p,
+                    standing: Standing {
+                        at: s.end,
+                        ended: Ended::Refused(event.code),
+                        ..s
+                    },
+                },
             }
         }
     }
 }
 
 // One turn, at the packet where the walk stands.
+#[tactic(auto, unfolding(crate::specs::Marking::turn_of))]
 pub fn turn(p: Packet, finished: &[u32], s: Standing) -> Turned
     requires { (s.at < s.end) × Fine s (length finished.now) }
     ensures { result ≡ turn_of p (finished_at finished.now s.place) s }
 {
-    if s.ended == FOUND {
-        let mut standing = s;
-        standing.at = s.at + 1;
+    if matches!(s.ended, Ended::Found(_)) {
         return Turned {
             packet: close(p),
-            standing,
+            standing: Standing { at: s.at + 1, ..s },
         };
     }
     if p.marked {
@@ -211,8 +197,7 @@ pub fn turn(p: Packet, finished: &[u32], s: Standing) -> Turned
             standing: pass(s),
         };
     }
-    let place = s.place;
-    look(finished::get_finished(finished, place), p, s)
+    look(finished::get_finished(finished, s.place), p, s)
 }
 
 // The packets of a record by value, and how the walk ended.

@@ -1,5 +1,6 @@
 -- The lowest clear bit is unique, one mask has it at the trailing zeros of its complement, and a table of masks at the first mask that is
 -- not full; a store to one mask of a table changes one bit of its row. Assumes nothing.
+use Rattle.std.specs.Prelude.{Option, Some, None}
 use mathlib.Core.Path.{◌≡◌, refl, sym, ap, ◌∙◌}
 use mathlib.Core.Logic.{⊎_elim}
 use mathlib.Core.List.{List}
@@ -11,8 +12,6 @@ use lib.Count.{count_trailing_zeros}
 use Rattle.base.proofs.Compare.{lt_or_le, same_or_not}
 use Rattle.mask.specs.Bit.{bit, BitIs}
 use Rattle.mask.specs.Clear.{LowestClear, Answers, table_bit}
-use Rattle.mask.specs.declared.Found.{Found}
-use Rattle.mask.specs.declared.Found.TheVariants.{At, Full}
 use Rattle.mask.proofs.BitLaws.{bit_lt, bit_not, trailing_clear, trailing_set}
 
 -- ---- any row of bits
@@ -23,12 +22,12 @@ lowest_le n f i j p q =
     ⊎_elim (λ (l : j < i). omega (arith, p.lower j l, q.clear)) (λ (l : i ≤ j). l) (lt_or_le j i)
 
 -- so an answer is the only one
-pub answer_unique : (n : ℕ) (f : ℕ → ℕ) (a b : Found) → Answers n f a → Answers n f b → a ≡ b
-answer_unique n f (At i) (At j) p q =
-    let e : i ≡ j = omega (arith, lowest_le n f i j p q, lowest_le n f j i q p) in ap At e
-answer_unique n f (At i) Full p q = absurd (omega (arith, q i p.within, p.clear))
-answer_unique n f Full (At j) p q = absurd (omega (arith, p j q.within, q.clear))
-answer_unique n f Full Full p q = refl
+pub answer_unique : (n : ℕ) (f : ℕ → ℕ) (a b : Option ℕ) → Answers n f a → Answers n f b → a ≡ b
+answer_unique n f (Some i) (Some j) p q =
+    let e : i ≡ j = omega (arith, lowest_le n f i j p q, lowest_le n f j i q p) in ap Some e
+answer_unique n f (Some i) None p q = absurd (omega (arith, q i p.within, p.clear))
+answer_unique n f None (Some j) p q = absurd (omega (arith, p j q.within, q.clear))
+answer_unique n f None None p q = refl
 
 -- ---- one mask of n bits: the count c of the trailing zeros of its complement
 

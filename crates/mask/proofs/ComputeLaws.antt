@@ -1,4 +1,5 @@
 -- The computed definitions are what the properties say: `lowest_clear` answers, `set_bit` and `clear_bit` change one bit. Assumes nothing.
+use Rattle.std.specs.Prelude.{Option, Some}
 use mathlib.Core.Path.{◌≡◌, refl, sym, ap, ◌∙◌, subst}
 use mathlib.Core.Logic.{⊎_elim}
 use Prim.Native.Nat.{ℕ, zero, suc, ◌+◌, ◌-◌, ◌*◌, ◌/◌, ◌%◌, ◌^◌, ◌≤◌, ◌<◌}
@@ -10,14 +11,12 @@ use lib.Bits.{bit_and, bit_or, or_lt, and_lt}
 use Rattle.mask.specs.Bit.{bit, BitIs}
 use Rattle.mask.specs.Clear.{Answers}
 use Rattle.mask.specs.Compute.{clear_from, lowest_clear, set_bit, clear_bit}
-use Rattle.mask.specs.declared.Found.{Found}
-use Rattle.mask.specs.declared.Found.TheVariants.{At}
 use Rattle.mask.proofs.BitLaws.{bit_zero, bit_suc, bit_lt, digit, shifted_one, or_is, and_is, bit_unique}
 use Rattle.mask.proofs.ClearLaws.{answer_unique}
 
 -- ---- the lowest clear bit
 
-here_clear : (n : ℕ) (f : ℕ → ℕ) (i : ℕ) → f i ≡ 0 → clear_from (suc n) f i ≡ At i
+here_clear : (n : ℕ) (f : ℕ → ℕ) (i : ℕ) → f i ≡ 0 → clear_from (suc n) f i ≡ Some i
 unfolding clear_from
 here_clear n f i e = rw (eq-eqb (f i) 0 e, clear_from)
 
@@ -53,10 +52,10 @@ unfolding lowest_clear
 lowest_answers m = search_answers 64 (bit m) (bit_lt m)
 
 -- so what has the property is the definition's answer
-pub search_computed : (n : ℕ) (f : ℕ → ℕ) → ((k : ℕ) → f k < 2) → (r : Found) → Answers n f r → r ≡ clear_from n f 0
+pub search_computed : (n : ℕ) (f : ℕ → ℕ) → ((k : ℕ) → f k < 2) → (r : Option ℕ) → Answers n f r → r ≡ clear_from n f 0
 search_computed n f two r a = answer_unique n f r (clear_from n f 0) a (search_answers n f two)
 
-pub lowest_computed : (m : ℕ) (r : Found) → Answers 64 (bit m) r → r ≡ lowest_clear m
+pub lowest_computed : (m : ℕ) (r : Option ℕ) → Answers 64 (bit m) r → r ≡ lowest_clear m
 unfolding lowest_clear
 lowest_computed m r a = search_computed 64 (bit m) (bit_lt m) r a
 

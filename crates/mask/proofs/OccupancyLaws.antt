@@ -1,5 +1,6 @@
 -- Taking and freeing a record change what is held of that record only, the record to take next is the lowest free one, and the mask stays one
 -- of 64 bits: all that a user of an occupancy needs, in the words of `held`. Assumes nothing.
+use Rattle.std.specs.Prelude.{Option, Some, None}
 use mathlib.Core.Path.{◌≡◌, ap}
 use mathlib.Core.Bool.{true, false}
 use Prim.Native.Nat.{ℕ, ◌<◌}
@@ -11,8 +12,6 @@ use Rattle.mask.specs.Bit.{bit}
 use Rattle.mask.specs.Clear.{Answers}
 use Rattle.mask.specs.Compute.{lowest_clear}
 use Rattle.mask.specs.Occupancy.{none, held, lowest, taken, freed, Sized, HeldIs, Tells}
-use Rattle.mask.specs.declared.Found.{Found}
-use Rattle.mask.specs.declared.Found.TheVariants.{At, Full}
 use Rattle.mask.specs.declared.Occupancy.{Occupancy}
 use Rattle.mask.proofs.BitLaws.{bit_none}
 use Rattle.mask.proofs.ComputeLaws.{lowest_answers, set_is, set_lt, clear_is, clear_lt}
@@ -64,9 +63,9 @@ module _ (o : Occupancy) (i : ℕ) (within : i < record_count) where
 
 -- ---- the lowest free record
 
-told : (o : Occupancy) (f : Found) → Answers record_count (bit o.bits) f → Tells o f
-told o (At i) a = record { within = a.within; free = bit_free o i a.clear; lower = λ k l. bit_held o k (a.lower k l) }
-told o Full a = λ k l. bit_held o k (a k l)
+told : (o : Occupancy) (f : Option ℕ) → Answers record_count (bit o.bits) f → Tells o f
+told o (Some i) a = record { within = a.within; free = bit_free o i a.clear; lower = λ k l. bit_held o k (a.lower k l) }
+told o None a = λ k l. bit_held o k (a k l)
 
 pub lowest_tells : (o : Occupancy) → Tells o (lowest o)
 unfolding lowest

@@ -1,8 +1,6 @@
 -- The lowest clear bit of any row of n bits: one mask is the row `bit m` of 64, a table of several masks the row `table_bit ms`.
-use Rattle.std.specs.Prelude.{◌≡◌, List, ℕ, ◌/◌, ◌%◌, ◌<◌, get_or}
+use Rattle.std.specs.Prelude.{◌≡◌, List, ℕ, ◌/◌, ◌%◌, ◌<◌, get_or, Option, Some, None}
 use Rattle.mask.specs.Bit.{bit}
-use Rattle.mask.specs.declared.Found.{Found}
-use Rattle.mask.specs.declared.Found.TheVariants.{At, Full}
 
 -- Bit i of the row is clear, and every lower one is set.
 pub record LowestClear (n : ℕ) (f : ℕ → ℕ) (i : ℕ) : Type 0 where
@@ -10,10 +8,10 @@ pub record LowestClear (n : ℕ) (f : ℕ → ℕ) (i : ℕ) : Type 0 where
   pub clear : f i ≡ 0
   pub lower : (k : ℕ) → k < i → f k ≡ 1
 
--- The answer `At i` says that i is the lowest clear bit, and `Full` that all n are set.
-abbrev pub Answers : (n : ℕ) → (ℕ → ℕ) → Found → Type 0
-Answers n f (At i) = LowestClear n f i
-Answers n f Full = (k : ℕ) → k < n → f k ≡ 1
+-- The answer `Some i` says that i is the lowest clear bit, and `None` that all n are set.
+abbrev pub Answers : (n : ℕ) → (ℕ → ℕ) → Option ℕ → Type 0
+Answers n f (Some i) = LowestClear n f i
+Answers n f None = (k : ℕ) → k < n → f k ≡ 1
 
 -- Bit i of a table of masks, 64 bits in each.
 unfoldable pub table_bit : List ℕ → ℕ → ℕ

@@ -1,16 +1,14 @@
 -- What the functions answer, as definitions that compute at numerals.
-use Rattle.std.specs.Prelude.{true, false, ℕ, zero, suc, ◌+◌, ◌-◌, ◌*◌, ◌^◌, eqb}
+use Rattle.std.specs.Prelude.{true, false, ℕ, zero, suc, ◌+◌, ◌-◌, ◌*◌, ◌^◌, eqb, Option, Some, None}
 use Rattle.mask.specs.Bit.{bit}
-use Rattle.mask.specs.declared.Found.{Found}
-use Rattle.mask.specs.declared.Found.TheVariants.{At, Full}
 
 -- The first clear bit of n bits of the row f, from bit i on.
-unfoldable pub clear_from : ℕ → (ℕ → ℕ) → ℕ → Found
-clear_from zero f i = Full
-clear_from (suc n) f i = elim (eqb (f i) 0) [ true ↦ At i | false ↦ clear_from n f (suc i) ]
+unfoldable pub clear_from : ℕ → (ℕ → ℕ) → ℕ → Option ℕ
+clear_from zero f i = None
+clear_from (suc n) f i = elim (eqb (f i) 0) [ true ↦ Some i | false ↦ clear_from n f (suc i) ]
 
 -- The record that is taken next.
-unfoldable pub lowest_clear : ℕ → Found
+unfoldable pub lowest_clear : ℕ → Option ℕ
 lowest_clear m = clear_from 64 (bit m) 0
 
 -- The mask m with bit i set: 2 ^ i more, if it was clear.

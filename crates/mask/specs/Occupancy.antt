@@ -1,10 +1,8 @@
 -- Which records are held. What lies behind `held`, `lowest`, `taken` and `freed` is one mask.
-use Rattle.std.specs.Prelude.{◌≡◌, Bool, true, false, ℕ, ◌^◌, ◌<◌, eqb}
+use Rattle.std.specs.Prelude.{◌≡◌, Bool, true, false, ℕ, ◌^◌, ◌<◌, eqb, Option, Some, None}
 use Rattle.sizes.specs.Sizes.{record_count}
 use Rattle.mask.specs.Bit.{bit}
 use Rattle.mask.specs.Compute.{clear_from, lowest_clear, set_bit, clear_bit}
-use Rattle.mask.specs.declared.Found.{Found}
-use Rattle.mask.specs.declared.Found.TheVariants.{At, Full}
 use Rattle.mask.specs.declared.Occupancy.{Occupancy}
 
 -- ---- what the functions answer; to unfold one of these is to compute with it
@@ -19,7 +17,7 @@ unfolding bit
 held o i = eqb (bit o.bits i) 1
 
 -- The record that is taken next: "the lowest clear bit is taken".
-unfoldable pub lowest : Occupancy → Found
+unfoldable pub lowest : Occupancy → Option ℕ
 unfolding bit clear_from lowest_clear
 lowest o = lowest_clear o.bits
 
@@ -50,7 +48,7 @@ pub record LowestFree (o : Occupancy) (i : ℕ) : Type 0 where
   pub free : held o i ≡ false
   pub lower : (k : ℕ) → k < i → held o k ≡ true
 
--- The answer `At i` says that i is the lowest free record, and `Full` that all are held.
-abbrev pub Tells : Occupancy → Found → Type 0
-Tells o (At i) = LowestFree o i
-Tells o Full = (k : ℕ) → k < record_count → held o k ≡ true
+-- The answer `Some i` says that i is the lowest free record, and `None` that all are held.
+abbrev pub Tells : Occupancy → Option ℕ → Type 0
+Tells o (Some i) = LowestFree o i
+Tells o None = (k : ℕ) → k < record_count → held o k ≡ true

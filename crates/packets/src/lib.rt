@@ -16,43 +16,45 @@ pub struct Packet {
 }
 
 // What a word says.
-pub fn packet_of(word: u64) -> Packet
-    ensures { result ≡ packet_of word }
-{
-    Packet {
-        requested: (word % 0x1_0000_0000) as u32,
-        actual: (word / 0x1_0000_0000 % 0x8000_0000) as u32,
-        marked: word / 0x8000_0000_0000_0000 == 1,
+impl From<u64> for Packet {
+    ghost from_gives = { λ word packet. packet ≡ packet_of word };
+
+    fn from(word: u64) -> Packet {
+        Packet {
+            requested: (word % 0x1_0000_0000) as u32,
+            actual: (word / 0x1_0000_0000 % 0x8000_0000) as u32,
+            marked: word / 0x8000_0000_0000_0000 == 1,
+        }
     }
 }
 
-fn mark(b: bool) -> u64
-    ensures { (result ≡ flag b) × (result < 2) }
-{
-    if b { 1 } else { 0 }
-}
-
 // The word of a packet; of what was counted the low 31 bits count.
-pub fn word_of(p: Packet) -> u64
-    ensures { result ≡ packet_word p }
-{
-    let actual = p.actual % 0x8000_0000;
-    p.requested as u64 + actual as u64 * 0x1_0000_0000 + mark(p.marked) * 0x8000_0000_0000_0000
+impl From<Packet> for u64 {
+    ghost from_gives = { λ packet word. word ≡ packet_word packet };
+
+    fn from(p: Packet) -> u64 {
+        let actual = p.actual % 0x8000_0000;
+        u64::from(p.requested)
+            + u64::from(actual) * 0x1_0000_0000
+            + u64::from(p.marked) * 0x8000_0000_0000_0000
+    }
 }
 
 // Packet k of record r.
+#[tactic(auto, unfolding(crate::specs::Packets::packet_at))]
 pub fn packet_at(packets: &[u64], r: usize, k: usize) -> Packet
     requires { packet_index r k < length packets.now }
     ensures { result ≡ packet_at packets.now r k }
 {
     let at = PACKET_COUNT * r + k;
-    packet_of(packets[at])
+    Packet::from(packets[at])
 }
 
+#[tactic(auto, unfolding(crate::specs::Packets::put_packet))]
 pub fn put_packet(packets: &mut [u64], r: usize, k: usize, p: Packet)
     requires { packet_index r k < length packets.old }
     ensures { packets.new ≡ put_packet packets.old r k p }
 {
     let at = PACKET_COUNT * r + k;
-    packets[at] = word_of(p);
+    packets[at] = u64::from(p);
 }

@@ -14,6 +14,7 @@ pub fn put_words(part: &mut [u32], w: Words) -> bool
     if part.len() != 4 {
         return false;
     }
+    // Word by word: `copy_from_slice` of the four takes 5 instructions in 100 more of a submission.
     part[0] = w.w0;
     part[1] = w.w1;
     part[2] = w.w2;

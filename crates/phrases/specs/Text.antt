@@ -1,5 +1,5 @@
 -- The lines that each answer is written as. Document 01, "A session is lines of text" and the session behind it; a drive's words are in docs/DRIVE.md.
-use Rattle.std.specs.Prelude.{ℕ, zero, suc, ◌+◌, min, List, [], ◌∷◌, ◌++◌, ltb}
+use Rattle.std.specs.Prelude.{ℕ, zero, suc, ◌+◌, min, List, [], ◌∷◌, ◌++◌, ltb, Ok, Result, ⊤, Err, Option, None, Some}
 use Rattle.base.specs.First.{pick}
 use Rattle.trb.specs.Layouts.{words_at}
 use Rattle.trb.specs.declared.Words.{Words}
@@ -9,22 +9,15 @@ use Rattle.page.specs.Page.{decimal_field, hex_field, flag_field, newline}
 use Rattle.controller.specs.declared.Consumer.{Consumer}
 use Rattle.dock.specs.declared.Completion.{Completion}
 use Rattle.dock.specs.declared.Endpoint.{Endpoint}
-use Rattle.dock.specs.declared.Command.{Command}
-use Rattle.dock.specs.declared.Command.TheVariants as command
-use Rattle.dock.specs.declared.Outcome.{Outcome}
-use Rattle.dock.specs.declared.Outcome.TheVariants as outcome
-use Rattle.dock.specs.declared.Pointed.{Pointed}
-use Rattle.dock.specs.declared.Pointed.TheVariants as pointed
-use Rattle.dock.specs.declared.Reclaimed.{Reclaimed}
-use Rattle.dock.specs.declared.Reclaimed.TheVariants as reclaimed
-use Rattle.dock.specs.declared.Resetting.{Resetting}
-use Rattle.dock.specs.declared.Resetting.TheVariants as resetting
+use Rattle.ring.specs.declared.Pointer.{Pointer}
+use Rattle.dock.specs.declared.Refusal.{Refusal}
 use Rattle.dock.specs.declared.Stored.{Stored}
-use Rattle.dock.specs.declared.Stored.TheVariants as stored
 use Rattle.dock.specs.declared.Submitted.{Submitted}
-use Rattle.dock.specs.declared.Submitted.TheVariants as submitted
-use Rattle.dock.specs.declared.Taken.{Taken}
-use Rattle.dock.specs.declared.Taken.TheVariants as taken
+use Rattle.dock.specs.declared.Reclaimed.{Reclaimed}
+use Rattle.dock.specs.declared.ResetCommands.{ResetCommands}
+use Rattle.dock.specs.declared.Reclaimed.TheVariants as reclaimed
+use Rattle.dock.specs.declared.Stored.TheVariants as stored
+use Rattle.dock.specs.Refusals.{done}
 use Rattle.dock.specs.Numbers.{Numbered, outcome_number, stored_number, submitted_number, taken_number, reclaimed_number, resetting_number, command_number, pointed_number}
 
 -- The words that lines begin with: no, store, bell, taken, cut, done, command, pointer, clear, state, stands, bad.
@@ -88,7 +81,7 @@ abbrev pub no_line : ℕ → List ℕ
 no_line row = refusal_line (row, [])
 
 abbrev pub failed_line : ℕ → List ℕ
-failed_line code = refusal_line (reclaimed_number (reclaimed.Failed code))
+failed_line code = refusal_line (reclaimed_number (Ok (reclaimed.Failed code)))
 
 -- Words of 32 bits have eight digits.
 unfoldable pub words_text : Words → List ℕ
@@ -102,28 +95,28 @@ slot_line name slot w = name ++ (decimal_field slot ++ words_text w)
 unfoldable pub bell_line : ℕ → ℕ → List ℕ
 bell_line bell id = bell_text ++ (hex_field 1 bell ++ (decimal_field id ++ newline))
 
-unfoldable pub outcome_line : List ℕ → Outcome → List ℕ
-outcome_line name outcome.Done = numbers_line name (outcome_number outcome.Done).1
-outcome_line name (outcome.Refused row) = refusal_line (outcome_number (outcome.Refused row))
+unfoldable pub outcome_line : List ℕ → Result ⊤ Refusal → List ℕ
+outcome_line name (Ok u) = numbers_line name (outcome_number done).1
+outcome_line name (Err row) = refusal_line (outcome_number (Err row))
 
 -- "a cancel writes `cut`, id".
-unfoldable pub cut_line : ℕ → Outcome → List ℕ
-cut_line id outcome.Done = number_line cut_text id
-cut_line id (outcome.Refused row) = refusal_line (outcome_number (outcome.Refused row))
+unfoldable pub cut_line : ℕ → Result ⊤ Refusal → List ℕ
+cut_line id (Ok u) = number_line cut_text id
+cut_line id (Err row) = refusal_line (outcome_number (Err row))
 
 -- A store: the slot and its words as they then stand; behind the last one the bell.
-unfoldable pub stored_lines : List ℕ → Stored → List ℕ
-stored_lines ring (stored.Slot slot) = slot_line store_text slot (words_at ring slot)
-stored_lines ring (stored.Last slot id bell) = slot_line store_text slot (words_at ring slot) ++ bell_line bell id
-stored_lines ring (stored.Refused row) = refusal_line (stored_number (stored.Refused row))
+unfoldable pub stored_lines : List ℕ → Result Stored Refusal → List ℕ
+stored_lines ring (Ok (stored.Slot slot)) = slot_line store_text slot (words_at ring slot)
+stored_lines ring (Ok (stored.Last slot id bell)) = slot_line store_text slot (words_at ring slot) ++ bell_line bell id
+stored_lines ring (Err row) = refusal_line (stored_number (Err row))
 
-unfoldable pub submitted_line : Submitted → List ℕ
-submitted_line (submitted.Done id bell) = bell_line bell id
-submitted_line (submitted.Refused row) = refusal_line (submitted_number (submitted.Refused row))
+unfoldable pub submitted_line : Result Submitted Refusal → List ℕ
+submitted_line (Ok s) = bell_line s.bell s.id
+submitted_line (Err row) = refusal_line (submitted_number (Err row))
 
-unfoldable pub taken_line : Taken → List ℕ
-taken_line (taken.Place slot) = numbers_line taken_text (taken_number (taken.Place slot)).1
-taken_line (taken.Refused row) = refusal_line (taken_number (taken.Refused row))
+unfoldable pub taken_line : Result ℕ Refusal → List ℕ
+taken_line (Ok slot) = numbers_line taken_text (taken_number (Ok slot)).1
+taken_line (Err row) = refusal_line (taken_number (Err row))
 
 -- What was counted for packet k of a record; a record that is none has no packets.
 unfoldable pub counted_at : List ℕ → ℕ → ℕ → ℕ
@@ -137,33 +130,33 @@ lengths_text (suc left) packets number k = decimal_field (counted_at packets num
 -- "`done` is id, length, yes, then any ISO packet lengths". A record has at most 64.
 unfoldable pub done_line : List ℕ → Completion → List ℕ
 done_line packets c =
-    done_text ++ numbers_text (reclaimed_number (reclaimed.Done c)).1 (lengths_text (min packet_count c.packets) packets c.number 0 ++ newline)
+    done_text ++ numbers_text (reclaimed_number (Ok (reclaimed.Done c))).1 (lengths_text (min packet_count c.packets) packets c.number 0 ++ newline)
 
-unfoldable pub reclaimed_line : List ℕ → Reclaimed → List ℕ
-reclaimed_line packets (reclaimed.Done c) = done_line packets c
-reclaimed_line packets reclaimed.Cancelled = refusal_line (reclaimed_number reclaimed.Cancelled)
-reclaimed_line packets (reclaimed.Failed code) = refusal_line (reclaimed_number (reclaimed.Failed code))
-reclaimed_line packets reclaimed.Mismatch = refusal_line (reclaimed_number reclaimed.Mismatch)
-reclaimed_line packets reclaimed.Nothing = refusal_line (reclaimed_number reclaimed.Nothing)
-reclaimed_line packets (reclaimed.Refused row) = refusal_line (reclaimed_number (reclaimed.Refused row))
+unfoldable pub reclaimed_line : List ℕ → Result Reclaimed Refusal → List ℕ
+reclaimed_line packets (Ok (reclaimed.Done c)) = done_line packets c
+reclaimed_line packets (Ok reclaimed.Cancelled) = refusal_line (reclaimed_number (Ok reclaimed.Cancelled))
+reclaimed_line packets (Ok (reclaimed.Failed code)) = refusal_line (reclaimed_number (Ok (reclaimed.Failed code)))
+reclaimed_line packets (Ok reclaimed.Mismatch) = refusal_line (reclaimed_number (Ok reclaimed.Mismatch))
+reclaimed_line packets (Ok reclaimed.Nothing) = refusal_line (reclaimed_number (Ok reclaimed.Nothing))
+reclaimed_line packets (Err row) = refusal_line (reclaimed_number (Err row))
 
 -- The words of a command.
 unfoldable pub command_line : Words → List ℕ
 command_line w = command_text ++ words_text w
 
-unfoldable pub resetting_lines : Resetting → List ℕ
-resetting_lines resetting.Clear = word_line clear_text
-resetting_lines (resetting.Commands first second) = command_line first ++ command_line second
-resetting_lines (resetting.Refused row) = refusal_line (resetting_number (resetting.Refused row))
+unfoldable pub resetting_lines : Result (Option ResetCommands) Refusal → List ℕ
+resetting_lines (Ok None) = word_line clear_text
+resetting_lines (Ok (Some c)) = command_line c.reset ++ command_line c.dequeue
+resetting_lines (Err row) = refusal_line (resetting_number (Err row))
 
-unfoldable pub commanded_line : Command → List ℕ
-commanded_line (command.Words w) = command_line w
-commanded_line (command.Refused row) = refusal_line (command_number (command.Refused row))
+unfoldable pub commanded_line : Result Words Refusal → List ℕ
+commanded_line (Ok w) = command_line w
+commanded_line (Err row) = refusal_line (command_number (Err row))
 
 -- Where the producer stands: the address, the cycle.
-unfoldable pub pointed_line : Pointed → List ℕ
-pointed_line (pointed.At p) = pointer_text ++ (hex_field 1 p.address ++ (flag_field p.cycle ++ newline))
-pointed_line (pointed.Refused row) = refusal_line (pointed_number (pointed.Refused row))
+unfoldable pub pointed_line : Result Pointer Refusal → List ℕ
+pointed_line (Ok p) = pointer_text ++ (hex_field 1 p.address ++ (flag_field p.cycle ++ newline))
+pointed_line (Err row) = refusal_line (pointed_number (Err row))
 
 -- Place, cycle, outstanding, next id, next frame, halted, reset under way.
 unfoldable pub state_rest : Endpoint → List ℕ

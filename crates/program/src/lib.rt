@@ -3,301 +3,110 @@
 #![tactic(auto)]
 
 mod input;
-
-ghost use Rattle.std.specs.Prelude.{◌≤◌, length};
-ghost use Rattle.sizes.specs.Sizes.{most_slots, ring_size};
+mod tables;
 
 use crate::input::Input;
-use bench::tools;
+use crate::tables::Tables;
 use console::serve;
 use controller::Consumer;
-use dock::{Changed, Endpoint, Outcome};
+use dock::{After, Endpoint, Refusal};
 use lines::Reading;
+use page::Page;
 use std::io::Stdin;
-use values::{Next, Opening, Turn, value};
+use values::{Next, Opening, value};
 
-// What a program lends: the words of a ring of 4,096 slots and of its finished table, records and packets, the bytes read, the numbers of a line, and a
-// page, which is written out where it is full: its size is no limit of what is written.
-pub const WORDS: usize = sizes::TRB_WORDS * sizes::MOST_SLOTS;
+// The numbers of a line.
+const VALUES: usize = 4098;
 
-pub const RECORDS: usize = sizes::RECORDS_SIZE;
+// How many bytes the page has room for.
+const PAGE_SIZE: usize = 65536;
 
-pub const PACKETS: usize = sizes::PACKETS_SIZE;
-
-pub const BYTES: usize = 65536;
-
-pub const VALUES: usize = 4098;
-
-pub const PAGE: usize = 65536;
-
-// What stands between two lines: whether a ring is made, its endpoint, and the controller.
+// What stands between two lines where a ring is made: its endpoint, and the controller.
 #[derive(Clone, Copy)]
-pub struct Bench {
-    pub made: bool,
-    pub e: Endpoint,
-    pub c: Consumer,
-}
-
-// What a line leaves: the bench, how many bytes stand on the page, and whether the line was bad, so that nothing follows.
-#[derive(Clone, Copy)]
-pub struct Left {
-    pub bench: Bench,
-    pub page: usize,
-    pub over: bool,
-}
-
-// The words of a table of so many slots; of more than 4,096 there is none.
-fn size_of(slots: usize) -> usize
-    ensures { result ≤ ring_size most_slots }
-{
-    if sizes::MOST_SLOTS < slots {
-        return 0;
-    }
-    sizes::TRB_WORDS * slots
-}
-
-// A ring is made in the parts of the tables that have its size.
-fn make_in(
-    ring: &mut [u32],
-    finished: &mut [u32],
-    size: usize,
-    records: &mut [u64; RECORDS],
-    packets: &mut [u64; PACKETS],
-    values: &[u64],
-) -> Changed
-    requires { (size ≤ length ring.old) × (size ≤ length finished.old) }
-{
-    calls::made(
-        &mut ring[..size],
-        &mut finished[..size],
-        records,
-        packets,
-        values,
-    )
-}
-
-// A line is served on them,
-fn serve_in(
+struct Bench {
     e: Endpoint,
-    ring: &mut [u32],
-    finished: &mut [u32],
-    size: usize,
-    records: &mut [u64; RECORDS],
-    packets: &mut [u64; PACKETS],
-    r: Reading,
-    values: &[u64],
-    out: &mut [u8; PAGE],
-    at: usize,
-) -> Turn
-    requires { (size ≤ length ring.old) × (size ≤ length finished.old) }
-{
-    serve::serve(
-        e,
-        &mut ring[..size],
-        &mut finished[..size],
-        records,
-        packets,
-        r,
-        values,
-        out,
-        at,
-    )
+    c: Consumer,
 }
 
-// and the controller steps there.
-fn step_in(
-    most: u64,
-    ring: &[u32],
-    size: usize,
-    c: Consumer,
-    out: &mut [u8; PAGE],
-    at: usize,
-) -> tools::Walked
-    requires { size ≤ length ring.now }
-{
-    tools::walk_on(most, &ring[..size], c, out, at)
-}
+// The line was bad, so that nothing follows.
+struct BadLine;
 
 // What is left behind a ring that was made, or was refused.
-fn opened(bench: Bench, m: Changed, out: &mut [u8; PAGE], at: usize) -> Left {
-    let answer = m.answer;
-    let e = m.endpoint;
-    match answer {
-        Outcome::Refused(number) => Left {
-            bench,
-            page: phrases::put_no(out, at, number),
-            over: false,
-        },
-        Outcome::Done => Left {
-            bench: Bench {
-                made: true,
-                e,
-                c: controller::outset(),
-            },
-            page: at,
-            over: false,
-        },
+fn opened(m: After<()>, page: &mut Page) -> Option<Bench> {
+    match m.answer {
+        Err(refusal) => {
+            phrases::put_no(page, refusal.number());
+            None
+        }
+        Ok(()) => Some(Bench {
+            e: m.endpoint,
+            c: controller::outset(),
+        }),
     }
 }
 
 // A line with no ring made: it makes a ring of at most so many slots, or it is bad.
 fn open(
-    bench: Bench,
-    ring: &mut [u32; WORDS],
-    finished: &mut [u32; WORDS],
-    records: &mut [u64; RECORDS],
-    packets: &mut [u64; PACKETS],
+    tables: &mut Tables,
     line: Reading,
-    number: u64,
     values: &[u64],
-    out: &mut [u8; PAGE],
-    at: usize,
+    page: &mut Page,
     most: u64,
-) -> Left {
-    let opening = values::opening_of(line, values, most);
-    match opening {
-        Opening::Bad => Left {
-            bench,
-            page: phrases::put_bad(out, at, number),
-            over: true,
-        },
-        Opening::TooLarge => Left {
-            bench,
-            page: phrases::put_no(out, at, 13),
-            over: false,
-        },
-        Opening::Ring => {
-            let size = size_of(value(values, 0) as usize);
-            let m = make_in(ring, finished, size, records, packets, values);
-            opened(bench, m, out, at)
+) -> Result<Option<Bench>, BadLine> {
+    match values::opening_of(line, values, most) {
+        Opening::Bad => Err(BadLine),
+        Opening::TooLarge => {
+            phrases::put_no(page, Refusal::OutsideLimits.number());
+            Ok(None)
         }
-    }
-}
-
-// What is left behind a line that was served, and `bad` with its number where it is bad.
-fn served(c: Consumer, t: Turn, number: u64, out: &mut [u8; PAGE]) -> Left {
-    let next = t.next;
-    let e = t.e;
-    match next {
-        Next::On => Left {
-            bench: Bench { made: true, e, c },
-            page: t.at,
-            over: false,
-        },
-        Next::New => Left {
-            bench: Bench { made: false, e, c },
-            page: t.at,
-            over: false,
-        },
-        Next::Bad => Left {
-            bench: Bench { made: true, e, c },
-            page: phrases::put_bad(out, t.at, number),
-            over: true,
-        },
+        Opening::Ring => Ok(opened(tables.make(values), page)),
     }
 }
 
 // A line with a ring made: `step`, or any other.
 fn attend(
-    e: Endpoint,
-    c: Consumer,
-    ring: &mut [u32; WORDS],
-    finished: &mut [u32; WORDS],
-    records: &mut [u64; RECORDS],
-    packets: &mut [u64; PACKETS],
-    line: Reading,
-    number: u64,
-    values: &[u64],
-    out: &mut [u8; PAGE],
-    at: usize,
-) -> Left {
-    let size = size_of(e.shape.slots);
-    if serve::is_step(line) {
-        let w = step_in(value(values, 0), ring, size, c, out, at);
-        let stands = w.c;
-        return Left {
-            bench: Bench {
-                made: true,
-                e,
-                c: stands,
-            },
-            page: w.at,
-            over: false,
-        };
-    }
-    let t = serve_in(
-        e, ring, finished, size, records, packets, line, values, out, at,
-    );
-    served(c, t, number, out)
-}
-
-// One line.
-fn turn(
     bench: Bench,
-    ring: &mut [u32; WORDS],
-    finished: &mut [u32; WORDS],
-    records: &mut [u64; RECORDS],
-    packets: &mut [u64; PACKETS],
+    tables: &mut Tables,
     line: Reading,
-    number: u64,
     values: &[u64],
-    out: &mut [u8; PAGE],
-    at: usize,
-    most: u64,
-) -> Left {
-    if !bench.made {
-        return open(
-            bench, ring, finished, records, packets, line, number, values, out, at, most,
-        );
-    }
+    page: &mut Page,
+) -> Result<Option<Bench>, BadLine> {
     let e = bench.e;
-    let c = bench.c;
-    attend(
-        e, c, ring, finished, records, packets, line, number, values, out, at,
-    )
+    if serve::is_step(line) {
+        let c = tables.step(e, value(values, 0), bench.c, page);
+        return Ok(Some(Bench { e, c }));
+    }
+    let t = tables.serve(e, line, values, page);
+    match t.next {
+        Next::On => Ok(Some(Bench { e: t.e, c: bench.c })),
+        Next::New => Ok(None),
+        Next::Bad => Err(BadLine),
+    }
 }
 
 // All lines of standard input; a ring has at most `most` slots. `full` says that a drive's words are known.
-pub fn run(
-    stdin: &mut Stdin,
-    ring: &mut [u32; WORDS],
-    finished: &mut [u32; WORDS],
-    records: &mut [u64; RECORDS],
-    packets: &mut [u64; PACKETS],
-    bytes: &mut [u8; BYTES],
-    values: &mut [u64; VALUES],
-    out: &mut [u8; PAGE],
-    full: bool,
-    most: u64,
-) {
-    let mut place = Input {
-        at: 0,
-        have: 0,
-        line: 0,
-    };
-    let mut bench = Bench {
-        made: false,
-        e: making::make::blank(),
-        c: controller::outset(),
-    };
-    let mut page: usize = 0;
-    let mut turns = u64::MAX;
-    while 0 < turns {
-        turns -= 1;
-        let g = input::next_line(stdin, bytes, place, values, full, out, page);
-        place = g.input;
-        page = g.page;
-        if !g.some {
+pub fn run(stdin: &mut Stdin, full: bool, most: u64) {
+    let mut input = Input::new();
+    let mut tables = Tables::new();
+    let mut values = [0; VALUES];
+    let mut bytes = [0; PAGE_SIZE];
+    let mut page = Page::new(&mut bytes);
+    let mut bench = None;
+    for _ in 0..u64::MAX {
+        let Some(line) = input.next_line(stdin, &mut values, full, &mut page) else {
             break;
-        }
-        let l = turn(
-            bench, ring, finished, records, packets, g.line, place.line, values, out, page, most,
-        );
-        bench = l.bench;
-        page = l.page;
-        if l.over {
-            break;
+        };
+        let left = match bench {
+            Some(made) => attend(made, &mut tables, line, &values, &mut page),
+            None => open(&mut tables, line, &values, &mut page, most),
+        };
+        match left {
+            Ok(next) => bench = next,
+            Err(BadLine) => {
+                phrases::put_bad(&mut page, input.line);
+                break;
+            }
         }
     }
-    page::flush(out, page);
+    page.flush();
 }

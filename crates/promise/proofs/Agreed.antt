@@ -17,17 +17,20 @@ use Rattle.mask.specs.Occupancy as masks
 use Rattle.mask.proofs.OccupancyLaws.{none_free}
 use Rattle.trb.specs.declared.Trb.{Trb}
 use Rattle.trb.specs.declared.Words.{Words}
-use Rattle.sizes.specs.Sizes.{control}
+use Rattle.std.specs.Prelude.{Some}
+use Rattle.records.specs.Kinds.{control}
+use Rattle.records.proofs.KindLaws.{eq_kind}
 use Rattle.records.specs.Records.{record_at}
 use Rattle.records.specs.declared.Record.{Record}
 use Rattle.dock.specs.declared.Account.{Account}
 use Rattle.dock.specs.declared.Endpoint.{Endpoint}
 use Rattle.dock.specs.declared.Identity.{Identity}
-use Rattle.dock.specs.declared.Outcome.TheVariants.{Done}
+use Rattle.dock.specs.declared.After.{After}
+use Rattle.dock.specs.declared.Stored.{Stored}
+use Rattle.dock.specs.Refusals.{done}
 use Rattle.dock.specs.declared.Periodic.{Periodic}
 use Rattle.dock.specs.declared.Request.{Request}
 use Rattle.dock.specs.declared.Shape.{Shape}
-use Rattle.dock.specs.declared.StoredOne.{StoredOne}
 use Rattle.dock.specs.declared.What.{What}
 use Rattle.dock.specs.declared.What.TheVariants as asks
 use Rattle.dock.specs.Cancel.{cancel_no, cancel_tests}
@@ -35,7 +38,7 @@ use Rattle.dock.specs.Configure.{plain_no, plain_tests}
 use Rattle.dock.specs.HandOver.{hand_over_no}
 use Rattle.dock.specs.Make.{make, make_no, zeros}
 use Rattle.dock.specs.NextStore.{store_no}
-use Rattle.dock.specs.Numbers.{outcome_number, stored_number, taken_number}
+use Rattle.dock.specs.Numbers.{Numbered, outcome_number, stored_number, taken_number}
 use Rattle.dock.specs.Reclaim.{leave, nothing, reclaim, reclaim_tests}
 use Rattle.dock.specs.Requests.{kind_of, required, record_for}
 use Rattle.dock.specs.Run.{State, made_of, Call, configures, starts, stores, submits, reclaims, cancels, retires, begins, ends, stops, resumes, points, after, answered}
@@ -47,6 +50,7 @@ use Rattle.dock.proofs.Reached.{flight_part}
 use Rattle.dock.proofs.ReachedBookLaws.{by_flies, Alike, flies_alike, still_held}
 use Rattle.dock.proofs.ReachedSoundLaws.{Untouched, Looked, reclaim_result, not_done, marked_alike}
 use Rattle.dock.proofs.ReclaimLaws.{Left}
+use Rattle.dock.proofs.RefusalAnswerLaws.{refused_leaves}
 use Rattle.dock.proofs.RefusalLaws.{make_refuses, make_acts, configure_refuses, configure_acts, plain_exact, start_refuses, start_acts, store_refuses, hand_over_refuses, hand_over_acts, cancel_refuses, cancel_acts, cancel_exact, reclaim_exact}
 use Rattle.dock.proofs.StartLaws.{record_taken_lem, record_written, records_kept}
 use Rattle.dock.proofs.StoreLaws.{last_store}
@@ -77,7 +81,7 @@ module _ (w : World) where
     configure_yes p = admits_by w _ (ap (λ a. (outcome_number a.answer).0) (configure_acts d.endpoint packet burst interval p))
 
     pub configure_no : (plain_no d.endpoint ≡ 0 → ⊥) → admits w (configures packet burst interval) ≡ false
-    configure_no p = declines_by w _ _ p (ap (λ a. (outcome_number a.answer).0) (configure_refuses d.endpoint packet burst interval p))
+    configure_no p = declines_by w _ _ p (ap (λ (x : Numbered). x.0) (refused_leaves d (configures packet burst interval) p).0)
 
   module _ (request : Request) (lengths : List ℕ) where
     pub start_yes : start_no d.endpoint d.records (length d.packets) request lengths ≡ 0 → admits w (starts request lengths) ≡ true
@@ -85,12 +89,12 @@ module _ (w : World) where
 
     pub start_no_lem : (start_no d.endpoint d.records (length d.packets) request lengths ≡ 0 → ⊥) → admits w (starts request lengths) ≡ false
     start_no_lem p =
-        declines_by w _ _ p (ap (λ a. (outcome_number a.0.answer).0) (start_refuses d.endpoint d.records d.packets request lengths p))
+        declines_by w _ _ p (ap (λ (x : Numbered). x.0) (refused_leaves d (starts request lengths) p).0)
 
   pub store_yes : store_no d.endpoint (length d.ring) (length d.finished) d.records (length d.packets) ≡ 0 → under_way w ≡ true
   store_yes p =
       let last = last_store d.endpoint d.records d.packets in
-      let by : StoredOne → ℕ = λ a. (stored_number a.answer).0 in
+      let by : After Stored → ℕ = λ a. (stored_number a.answer).0 in
       ⊎_elim
       (λ (t : last ≡ true). admits_by w stores (ap by (store_ends d.endpoint d.ring d.finished d.records d.packets p t)))
       (λ (t : last ≡ false). admits_by w stores (ap by (store_goes_on d.endpoint d.ring d.finished d.records d.packets p t)))
@@ -98,14 +102,14 @@ module _ (w : World) where
 
   pub store_no_lem : (store_no d.endpoint (length d.ring) (length d.finished) d.records (length d.packets) ≡ 0 → ⊥) → under_way w ≡ false
   store_no_lem p =
-      declines_by w _ _ p (ap (λ a. (stored_number a.0.answer).0) (store_refuses d.endpoint d.ring d.finished d.records d.packets p))
+      declines_by w _ _ p (ap (λ (x : Numbered). x.0) (refused_leaves d stores p).0)
 
   module _ (event : Words) where
     pub event_yes : hand_over_no d.endpoint (length d.finished) event ≡ 0 → admits w (dock.hands event) ≡ true
     event_yes p = admits_by w _ (ap (λ a. (taken_number a.0).0) (hand_over_acts d.endpoint d.finished event p))
 
     pub event_no : (hand_over_no d.endpoint (length d.finished) event ≡ 0 → ⊥) → admits w (dock.hands event) ≡ false
-    event_no p = declines_by w _ _ p (ap (λ a. (taken_number a.0).0) (hand_over_refuses d.endpoint d.finished event p))
+    event_no p = declines_by w _ _ p (ap (λ (x : Numbered). x.0) (refused_leaves d (dock.hands event) p).0)
 
 -- ---- what agrees
 
@@ -284,9 +288,9 @@ module _ (w : World) (g : Agreed w) where
       ⊎_elim
       (λ (last : last_store e s.records s.packets ≡ true).
       absurd (false≢true
-      (sym (ap (λ (x : StoredOne). x.endpoint.work.busy) (store_ends e s.ring s.finished s.records s.packets p last)) ∙ b)))
+      (sym (ap (λ (x : After Stored). x.endpoint.work.busy) (store_ends e s.ring s.finished s.records s.packets p last)) ∙ b)))
       (λ (more : last_store e s.records s.packets ≡ false).
-      ap (λ (x : StoredOne). x.endpoint.work.number) (store_goes_on e s.ring s.finished s.records s.packets p more)
+      ap (λ (x : After Stored). x.endpoint.work.number) (store_goes_on e s.ring s.finished s.records s.packets p more)
       ∙ (step_works _ e _ s.packets).number)
       (true_or_false (last_store e s.records s.packets))))
       (λ (p : store_no e (length s.ring) (length s.finished) s.records (length s.packets) ≡ 0 → ⊥).
@@ -363,14 +367,14 @@ module _ (ring finished records packets : List ℕ) (shape : Shape) (who : Ident
   none_fly : (r : ℕ) → flies (zeros records) masks.none r ≡ true → 0 + (record_at (zeros records) r).count ≡ 0
   none_fly r fly = absurd (false≢true (sym (none_free r) ∙ ((by_flies (zeros records) masks.none r).so fly).0))
 
-  made_agreed : (make ring finished records packets shape who).0.answer ≡ Done
+  made_agreed : (make ring finished records packets shape who).0.answer ≡ done
       → Agreed (from_making shape who (made_of (make ring finished records packets shape who)))
   made_agreed done =
       ⊎_elim
       (λ (p : row ≡ 0). rw (make_acts ring finished records packets shape who p)
       (record { shape = refl; who = refl; packet = refl; burst = refl; interval = refl; of_last = λ b. absurd (false≢true b); ranges = none_fly }))
       (λ (p : row ≡ 0 → ⊥).
-      absurd (not_done row (sym (ap (λ m. m.0.answer) (make_refuses ring finished records packets shape who p)) ∙ done)))
+      absurd (not_done _ (sym (ap (λ m. m.0.answer) (make_refuses ring finished records packets shape who p)) ∙ done)))
       (same_or_not row 0)
 
 pub run_agreed : {w : World} → Run w → Agreed w
@@ -390,7 +394,7 @@ same_trbs a b request lengths packet burst = by request.what
     by (asks.Interrupt incoming) = refl
     by (asks.Isoch incoming) = rw (packet, burst) refl
 
-control_kind : (what : What) → is_control what ≡ true → kind_of what ≡ control
+control_kind : (what : What) → is_control what ≡ true → Some (kind_of what) ≡ control
 control_kind (asks.Control type code value index) c = refl
 control_kind (asks.Bulk incoming) c = absurd (false≢true c)
 control_kind (asks.Interrupt incoming) c = absurd (false≢true c)
@@ -411,4 +415,4 @@ module _ (w : World) (g : Agreed w) where
     unfolding deferred
     control_defers c =
         let o = g.of_last busy in
-        rw o.kept (eq-eqb _ control (control_kind o.request.what (ap controls (sym o.last) ∙ c)))
+        rw o.kept (eq_kind _ control (control_kind o.request.what (ap controls (sym o.last) ∙ c)))

@@ -1,6 +1,7 @@
 -- The records in flight, where words of records change that say nothing of a request's TRBs, and where a record whose TRBs have all been passed by an event
 -- is freed. A change of nothing but such words, with no submission under way, keeps the invariant (`idle_changes`): a configuring and a cancel are such
 -- changes. Assumes nothing.
+use Rattle.std.specs.Prelude.{Option, Some, None}
 use Prim.Native.Nat.{ℕ, ◌+◌, ◌<◌, ◌≤◌}
 use mathlib.Core.Bool.{true, false, false≢true}
 use mathlib.Core.List.{List}
@@ -14,10 +15,9 @@ use Rattle.base.proofs.Compare.{same_or_not}
 use Rattle.base.proofs.Decide.{if_so}
 use Rattle.sizes.specs.Sizes.{record_count, record_words}
 use Rattle.ids.specs.Lookup.{find_in}
-use Rattle.ids.specs.declared.Lookup.{Lookup}
-use Rattle.ids.specs.declared.Lookup.TheVariants as lookup
 use Rattle.mask.specs.Occupancy as masks
 use Rattle.mask.specs.declared.Occupancy.{Occupancy}
+use Rattle.records.specs.Kinds.{kind_in}
 use Rattle.records.specs.Records.{cancelled_word, recorded_word, record_at, set_word}
 use Rattle.records.proofs.RecordLaws.{word_kept}
 use Rattle.dock.specs.declared.Account.{Account}
@@ -51,20 +51,20 @@ same_set : (records : List ℕ) (r k value : ℕ) → k < record_words → (k �
 unfolding record_at
 same_set records r k value small a b alike = record {
   alike = alike;
-  kind = λ s. word_kept records r k value s 1 (λ e. a (omega arith));
+  kind = λ s. ap kind_in (word_kept records r k value s 1 (λ e. a (omega arith)));
   length = λ s. word_kept records r k value s 6 (λ e. b (omega arith));
 }
 
 -- A cancel,
-pub same_marked : (records : List ℕ) (f : Lookup) → Same records (marked records f)
-same_marked records lookup.Nothing = same_same records
-same_marked records (lookup.At r) =
-    same_set records r cancelled_word 1 (omega arith) (λ e. omega arith) (λ e. omega arith) (marked_alike records (lookup.At r))
+pub same_marked : (records : List ℕ) (f : Option ℕ) → Same records (marked records f)
+same_marked records None = same_same records
+same_marked records (Some r) =
+    same_set records r cancelled_word 1 (omega arith) (λ e. omega arith) (λ e. omega arith) (marked_alike records (Some r))
 
 -- and a reclaim.
-pub same_after : (f : Lookup) (records after : List ℕ) → RecordsAfter f records after → Same records after
-same_after lookup.Nothing records after q = subst (λ (x : List ℕ). Same records x) (sym q) (same_same records)
-same_after (lookup.At r) records after q =
+pub same_after : (f : Option ℕ) (records after : List ℕ) → RecordsAfter f records after → Same records after
+same_after None records after q = subst (λ (x : List ℕ). Same records x) (sym q) (same_same records)
+same_after (Some r) records after q =
     ⊎_elim
     (λ (u : after ≡ records). subst (λ (x : List ℕ). Same records x) (sym u) (same_same records))
     (λ (u : (value : ℕ) × (after ≡ set_word records r recorded_word value)).

@@ -4,6 +4,7 @@
 --   `not_overwritten`: no store overwrites a TRB that is not consumed, but the second store of a TD's first TRB, which stores the same TRB again.
 --   `event_latest`: the event in a finished place is of the latest TRB stored there, and that one is consumed.
 -- Assumes nothing.
+use Rattle.std.specs.Prelude.{Some, ⊤, Result}
 use Prim.Native.Nat.{ℕ, suc, ◌+◌, ◌-◌, ◌<◌, ◌≤◌}
 use mathlib.Core.Bool.{Bool, true, false, false≢true}
 use mathlib.Core.List.{List}
@@ -22,13 +23,12 @@ use Rattle.mask.specs.Occupancy as masks
 use Rattle.trb.specs.declared.Words.{Words}
 use Rattle.finished.specs.Finished.{finished_at}
 use Rattle.records.specs.Records.{record_at}
-use Rattle.finished.specs.declared.Finished.TheVariants.{Event}
 use Rattle.records.specs.declared.Record.{Record}
 use Rattle.dock.specs.declared.Account.{Account}
-use Rattle.dock.specs.declared.Changed.{Changed}
+use Rattle.dock.specs.declared.After.{After}
+use Rattle.dock.specs.declared.Refusal.{Refusal}
+use Rattle.dock.specs.declared.Reclaimed.{Reclaimed}
 use Rattle.dock.specs.declared.Endpoint.{Endpoint}
-use Rattle.dock.specs.declared.Outcome.{Outcome}
-use Rattle.dock.specs.declared.ReclaimedOne.{ReclaimedOne}
 use Rattle.dock.specs.declared.Request.{Request}
 use Rattle.dock.specs.Cancel.{cancel, cancel_no}
 use Rattle.dock.specs.Configure.{configure, plain_no}
@@ -142,7 +142,7 @@ pub record EventOf (w : World) (i : ℕ) (event : Words) : Type 0 where
   pub consumed : nth < length w.consumed
   pub coded : accepted (code_of event) ≡ true
 
-pub event_latest : {w : World} → Run w → (i : ℕ) (event : Words) → i < slots w - 1 → finished_at w.dock.finished i ≡ Event event
+pub event_latest : {w : World} → Run w → (i : ℕ) (event : Words) → i < slots w - 1 → finished_at w.dock.finished i ≡ Some event
     → EventOf w i event
 event_latest {w} r i event below said =
     let g = run_agreed r in
@@ -259,7 +259,7 @@ module _ (w : World) (r : ℕ) where
   configures_keeps : (packet burst interval : ℕ) → (configure w.dock.endpoint packet burst interval).endpoint.account ≡ w.dock.endpoint.account
   unfolding configure
   configures_keeps packet burst interval =
-      picked (λ (c : Changed). c.endpoint.account ≡ w.dock.endpoint.account) (eqb (plain_no w.dock.endpoint) 0) _ _ (λ t. refl) (λ t. refl)
+      picked (λ (c : After ⊤). c.endpoint.account ≡ w.dock.endpoint.account) (eqb (plain_no w.dock.endpoint) 0) _ _ (λ t. refl) (λ t. refl)
 
   configures_flies : (packet burst interval : ℕ) → in_flight w r ≡ true
       → flies w.dock.records (configure w.dock.endpoint packet burst interval).endpoint.account.occupancy r ≡ true
@@ -281,7 +281,7 @@ module _ (w : World) (r : ℕ) where
   cancels_keeps id =
       let e = w.dock.endpoint in
       let records = w.dock.records in
-      picked (λ (a : Outcome × List ℕ). flies a.1 e.account.occupancy r ≡ in_flight w r) (eqb (cancel_no e records id) 0) _ _
+      picked (λ (a : Result ⊤ Refusal × List ℕ). flies a.1 e.account.occupancy r ≡ in_flight w r) (eqb (cancel_no e records id) 0) _ _
       (λ t. flies_alike records _ e.account.occupancy r (marked_alike records (find_in records e.account.occupancy id)))
       (λ t. refl)
 
@@ -325,7 +325,7 @@ module _ (w : World) (r : ℕ) where
       let alike = u.touches.own_record.alike in
       ⊎_elim
       (λ (n : t.0 ≡ nothing e).
-      absurd (false≢true (sym gone ∙ ap (λ (x : ReclaimedOne). flies t.1 x.endpoint.account.occupancy r) n
+      absurd (false≢true (sym gone ∙ ap (λ (x : After Reclaimed). flies t.1 x.endpoint.account.occupancy r) n
       ∙ flies_alike records t.1 occupancy r alike ∙ fly)))
       (λ (n : Left e u.number (flight_part records occupancy u.number) t.0).
       ⊎_elim

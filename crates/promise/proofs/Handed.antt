@@ -1,5 +1,6 @@
 -- An event that is handed over keeps the invariant. It is for a TRB that no event has passed, so that TRB is the last that was stored in its slot: fewer
 -- than L-1 were stored after the last one that an event came for. Assumes nothing.
+use Rattle.std.specs.Prelude.{Some}
 use Prim.Native.Nat.{ℕ, suc, ◌+◌, ◌*◌, ◌<◌, ◌≤◌}
 use mathlib.Core.Bool.{true, false, not, ◌||◌, false≢true}
 use mathlib.Core.List.{List}
@@ -17,7 +18,6 @@ use Rattle.ids.proofs.AnyLaws.{true_or_false}
 use Rattle.ring.specs.Ring.{slot_address, slot_of}
 use Rattle.ring.proofs.SlotLaws.{slot_found}
 use Rattle.finished.specs.Finished.{finished_at, fill_place}
-use Rattle.finished.specs.declared.Finished.TheVariants.{Event}
 use Rattle.finished.proofs.FinishedLaws.{taken, kept, others_kept}
 use Rattle.dock.specs.declared.Endpoint.{Endpoint}
 use Rattle.dock.specs.declared.Shape.{Shape}
@@ -82,7 +82,7 @@ latest_heard K stored heard more i event h l = record {
 typed_word : (event : Words) → (((event_of event).form ≡ 32 → ⊥) → ⊥) → event.w3 ≡ 0 → ⊥
 typed_word event t z = t (λ e. omega arith)
 
-same_event : (a b : Words) → Event a ≡ Event b → a ≡ b
+same_event : (a b : Words) → Some a ≡ Some b → a ≡ b
 same_event a b e = cc
 
 module _ (K : ℕ) (finished : List ℕ) (stored heard n : ℕ) (event : Words)
@@ -93,7 +93,7 @@ module _ (K : ℕ) (finished : List ℕ) (stored heard n : ℕ) (event : Words)
   place = (pos K n).place
 
   -- At its own place, empty or full,
-  here : (e : Words) → finished_at (fill_place finished place event) place ≡ Event e → place < K → Latest K stored (suc n) place e
+  here : (e : Words) → finished_at (fill_place finished place event) place ≡ Some e → place < K → Latest K stored (suc n) place e
   here e said l =
       ⊎_elim
       (λ (empty : get_or finished (4 * place + 3) 0 ≡ 0).
@@ -125,7 +125,7 @@ module _ (K : ℕ) (finished : List ℕ) (stored heard n : ℕ) (event : Words)
   filled i e l said =
       ⊎_elim
       (λ (q : i ≡ place). subst (λ (x : ℕ). Latest K stored (suc n) x e) (sym q)
-      (here e (subst (λ (x : ℕ). finished_at (fill_place finished place event) x ≡ Event e) q said) (subst (λ (x : ℕ). x < K) q l)))
+      (here e (subst (λ (x : ℕ). finished_at (fill_place finished place event) x ≡ Some e) q said) (subst (λ (x : ℕ). x < K) q l)))
       (λ (d : i ≡ place → ⊥). latest_heard K stored heard (suc n) i e (omega arith) (old i e l (sym (elsewhere i d) ∙ said)))
       (same_or_not i place)
 

@@ -1,6 +1,7 @@
 -- What holds of a dock and its controller between any two moves of a run (`Kept`): the ring side is a state of `order`'s model, with the model's
 -- invariant; the place of a TRB that has had its event says so; and the records in flight have every admitted TRB that no event has passed. The
 -- definitions only: the files beside this one prove that each move keeps it. Assumes nothing.
+use Rattle.std.specs.Prelude.{Some}
 use Prim.Native.Nat.{ℕ, zero, suc, ◌+◌, ◌-◌, ◌<◌, ◌≤◌}
 use mathlib.Core.Bool.{Bool, true, false}
 use mathlib.Core.List.{List, [], ◌∷◌}
@@ -10,7 +11,7 @@ use lib.Dec.{eqb}
 use lib.ListN.{length}
 use Rattle.base.specs.First.{pick}
 use Rattle.mask.specs.declared.Occupancy.{Occupancy}
-use Rattle.sizes.specs.Sizes.{record_count, control, bulk, interrupt}
+use Rattle.sizes.specs.Sizes.{record_count}
 use Rattle.trb.specs.Cycle.{Pointer, type_of}
 use Rattle.trb.specs.Layouts.{words_of, words_at}
 use Rattle.trb.specs.declared.Trb.{Trb}
@@ -18,8 +19,8 @@ use Rattle.trb.specs.declared.Words.{Words}
 use Rattle.ring.specs.Ring.{link_trb}
 use Rattle.ring.specs.declared.Position.{Position}
 use Rattle.finished.specs.Finished.{finished_at}
+use Rattle.records.specs.Kinds.{control, bulk, interrupt}
 use Rattle.records.specs.Records.{record_at}
-use Rattle.finished.specs.declared.Finished.TheVariants.{Event}
 use Rattle.records.specs.declared.Record.{Record}
 use Rattle.dock.specs.declared.Endpoint.{Endpoint}
 use Rattle.dock.specs.RowOne.{flies, the_trb}
@@ -151,7 +152,7 @@ pub record Latest (K stored heard i : ℕ) (event : Words) : Type 0 where
   pub fine : accepted (code_of event) ≡ true
 
 abbrev pub Places : (K : ℕ) → List ℕ → ℕ → ℕ → Type 0
-Places K finished stored heard = (i : ℕ) (event : Words) → i < K → finished_at finished i ≡ Event event → Latest K stored heard i event
+Places K finished stored heard = (i : ℕ) (event : Words) → i < K → finished_at finished i ≡ Some event → Latest K stored heard i event
 
 -- ---- the records in flight
 

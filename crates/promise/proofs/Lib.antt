@@ -1,3 +1,4 @@
+pub mod WordLaws
 pub mod Counting
 pub mod Laid
 pub mod Kept

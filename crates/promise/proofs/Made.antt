@@ -1,4 +1,5 @@
 -- Making: the invariant holds of a dock that is made, with its controller at the outset. Assumes nothing.
+use Rattle.std.specs.Prelude.{Some, None}
 use Prim.Native.Nat.{ℕ, suc, ◌+◌, ◌-◌, ◌*◌}
 use mathlib.Core.Bool.{false≢true}
 use mathlib.Core.List.{List}
@@ -14,9 +15,8 @@ use Rattle.trb.specs.Cycle.{type_of}
 use Rattle.trb.specs.Layouts.{words_at}
 use Rattle.trb.specs.declared.Words.{Words}
 use Rattle.finished.specs.Finished.{finished_at}
-use Rattle.finished.specs.declared.Finished.TheVariants.{Nothing, Event}
 use Rattle.dock.specs.declared.Identity.{Identity}
-use Rattle.dock.specs.declared.Outcome.TheVariants.{Done}
+use Rattle.dock.specs.Refusals.{done}
 use Rattle.dock.specs.declared.Shape.{Shape}
 use Rattle.dock.specs.Make.{make, make_no, make_tests, zeros}
 use Rattle.dock.specs.State.{fresh}
@@ -34,7 +34,7 @@ use Rattle.promise.specs.Run.{from_making}
 use Rattle.promise.proofs.Kept.{Kept, rests}
 
 -- A place of zeros is empty,
-empty : (n i : ℕ) → finished_at (replicate n 0) i ≡ Nothing
+empty : (n i : ℕ) → finished_at (replicate n 0) i ≡ None
 unfolding finished_at
 empty n i = rw (get_d_zeros n (4 * i + 3))
 
@@ -43,7 +43,7 @@ zero_type : (n i : ℕ) → type_of (words_at (replicate n 0) i) ≡ 0
 unfolding type_of words_at
 zero_type n i = rw (get_d_zeros n (4 * i + 3))
 
-pub never_event : (event : Words) → Nothing ≡ Event event → ⊥
+pub never_event : (event : Words) → None ≡ Some event → ⊥
 never_event event e = let z : ◌≡◌ {A = ℕ} 0 1 = cc in omega arith
 
 module _ (ring finished records packets : List ℕ) (shape : Shape) (who : Identity) where
@@ -79,11 +79,11 @@ module _ (ring finished records packets : List ℕ) (shape : Shape) (who : Ident
         };
       }
 
-  pub made_kept : (make ring finished records packets shape who).0.answer ≡ Done
+  pub made_kept : (make ring finished records packets shape who).0.answer ≡ done
       → Kept (from_making shape who (made_of (make ring finished records packets shape who)))
   made_kept done =
       ⊎_elim
       (λ (p : row ≡ 0). rw (make_acts ring finished records packets shape who p) (fresh_kept p))
       (λ (p : row ≡ 0 → ⊥).
-      absurd (not_done row (sym (ap (λ m. m.0.answer) (make_refuses ring finished records packets shape who p)) ∙ done)))
+      absurd (not_done _ (sym (ap (λ m. m.0.answer) (make_refuses ring finished records packets shape who p)) ∙ done)))
       (same_or_not row 0)

@@ -1,6 +1,7 @@
 -- A reclaim keeps the invariant. A request leaves flight only when an event stands in the place of its last TRB; that event is of the latest TRB stored
 -- there, which is this one or a later one; so an event has passed all of the request's TRBs, and they are consumed (`left_heard`). What stays outstanding
 -- then still covers what is not consumed, which is what the model asks for. Assumes nothing.
+use Rattle.std.specs.Prelude.{Option}
 use Prim.Native.Nat.{ℕ, suc, ◌+◌, ◌-◌, ◌%◌, ◌<◌, ◌≤◌}
 use mathlib.Core.Bool.{Bool, true, false, false≢true}
 use mathlib.Core.List.{List}
@@ -15,15 +16,17 @@ use Rattle.base.proofs.Compare.{lt_or_le}
 use Rattle.sizes.specs.Sizes.{record_count}
 use Rattle.ids.specs.Free.{id_at}
 use Rattle.ids.specs.Lookup.{find_in}
-use Rattle.ids.specs.declared.Lookup.{Lookup}
 use Rattle.ids.proofs.AnyLaws.{by_held}
 use Rattle.mask.specs.Occupancy.{held}
 use Rattle.mask.specs.Occupancy as masks
 use Rattle.trb.specs.declared.Words.{Words}
-use Rattle.records.specs.Records.{in_flight, stopped, record_at}
+use Rattle.records.specs.States.{state_is, in_flight, stopped}
+use Rattle.records.specs.Records.{record_at}
+use Rattle.records.proofs.StateLaws.{eq_state, ne_state, flying_not_stopped}
 use Rattle.records.specs.declared.Record.{Record}
 use Rattle.dock.specs.declared.Endpoint.{Endpoint}
-use Rattle.dock.specs.declared.ReclaimedOne.{ReclaimedOne}
+use Rattle.dock.specs.declared.After.{After}
+use Rattle.dock.specs.declared.Reclaimed.{Reclaimed}
 use Rattle.dock.specs.RowOne.{flies}
 use Rattle.dock.specs.Reclaim.{final, leave, nothing, place_of, reclaim_flying, reclaim_found, reclaim}
 use Rattle.dock.proofs.ReachedBookLaws.{by_flies, freed_sum}
@@ -73,7 +76,7 @@ module _ (w : World) (h : Sound w.dock) (k : Kept w) (id : ℕ) where
   abbrev e : Endpoint
   e = w.dock.endpoint
 
-  abbrev result : ReclaimedOne × List ℕ × List ℕ
+  abbrev result : After Reclaimed × List ℕ × List ℕ
   result = reclaim e w.dock.finished w.dock.records w.dock.packets id
 
   some_place : 0 < k.K
@@ -109,17 +112,17 @@ module _ (w : World) (h : Sound w.dock) (k : Kept w) (id : ℕ) where
       let has = (by_held (held e.account.occupancy) (id_at records) id r).so u.lowest.here in
       let found = held_found w.dock h id r within (has.0, has.1) in
       let flying : v.state ≡ in_flight = ((by_flies records e.account.occupancy r).so fly).1 in
-      let going : eqb v.state in_flight ≡ true = eq-eqb _ _ flying in
-      let going_on : eqb v.state stopped ≡ false = ne_eqb v.state stopped (λ (q : v.state ≡ stopped). omega arith) in
+      let going : state_is v.state in_flight ≡ true = eq_state v.state in_flight flying in
+      let going_on : state_is v.state stopped ≡ false = ne_state v.state stopped (λ (q : v.state ≡ stopped). flying_not_stopped v.state flying q) in
       let is : result ≡ reclaim_flying e w.dock.finished records w.dock.packets v r =
       reclaim_acts e w.dock.finished records w.dock.packets id u.allowed
-      ∙ ap (λ (f : Lookup). reclaim_found f e w.dock.finished records w.dock.packets) found
+      ∙ ap (λ (f : Option ℕ). reclaim_found f e w.dock.finished records w.dock.packets) found
       ∙ rw (going_on, going) refl in
       let holds = k.flights.each r within fly in
       let low : v.place < k.K = omega (arith, holds.begins, slot_lt k.K some_place (w.first r)) in
       ⊎_elim
       (λ (q : (reclaim_flying e w.dock.finished records w.dock.packets v r).0 ≡ nothing e).
-      absurd (false≢true (sym (ap (λ (x : ReclaimedOne). final x.answer) (ap (λ (t : ReclaimedOne × List ℕ × List ℕ). t.0) is ∙ q)) ∙ over)))
+      absurd (false≢true (sym (ap (λ (x : After Reclaimed). final x.answer) (ap (λ (t : After Reclaimed × List ℕ × List ℕ). t.0) is ∙ q)) ∙ over)))
       (λ (o : Over e.shape.slots w.dock.finished v). over_heard free (w.first r) v holds o)
       (flying_out k.K some_place e k.shape w.dock.finished (λ i event l said. (k.places i event l said).fine) v low r
       holds.counts records w.dock.packets)

@@ -1,5 +1,6 @@
 -- A request in flight is over only where an event stands in the place of its last TRB, if every event that stands anywhere is coded Success or Short
 -- Packet. Assumes nothing.
+use Rattle.std.specs.Prelude.{Option, Some, None}
 use Prim.Native.Nat.{ℕ, zero, suc, ◌+◌, ◌-◌, ◌<◌}
 use mathlib.Core.Bool.{Bool, true, false, ◌||◌}
 use mathlib.Core.List.{List}
@@ -13,13 +14,13 @@ use Rattle.base.specs.First.{pick}
 use Rattle.base.proofs.Decide.{by_eqb, either}
 use Rattle.trb.specs.declared.Words.{Words}
 use Rattle.finished.specs.Finished.{finished_at}
-use Rattle.finished.specs.declared.Finished.{Finished}
-use Rattle.finished.specs.declared.Finished.TheVariants as place
 use Rattle.packets.specs.Packets.{packet_at, put_packet}
-use Rattle.sizes.specs.Sizes.{control, bulk, interrupt, isoch}
+use Rattle.records.specs.Kinds.{kind_is, control, bulk, interrupt, isoch}
+use Rattle.records.proofs.KindLaws.{kind_true, by_kind}
 use Rattle.records.specs.declared.Record.{Record}
 use Rattle.dock.specs.declared.Endpoint.{Endpoint}
-use Rattle.dock.specs.declared.ReclaimedOne.{ReclaimedOne}
+use Rattle.dock.specs.declared.After.{After}
+use Rattle.dock.specs.declared.Reclaimed.{Reclaimed}
 use Rattle.dock.specs.Reclaim.{nothing, code_of, remaining_of, place_of, bulk_by, reclaim_bulk, onward, stage_by, status_by, recorded_by, status_place, data_place, data_seen, reclaim_control, counted, close_below, Swept, unfinished, found, swept_by, swept_at, sweep, swept_answer, reclaim_iso, reclaim_flying}
 use Rattle.dock.specs.Worth.{accepted, counts, bytes}
 use Rattle.dock.proofs.ReclaimAnswerLaws.{worth_counts}
@@ -38,15 +39,15 @@ accepted_counts code t =
 -- An event stands in the place of the last TRB.
 pub record Over (slots : ℕ) (finished : List ℕ) (v : Record) : Type 0 where
   pub event : Words
-  pub there : finished_at finished (place_of slots v.place (v.count - 1)) ≡ place.Event event
+  pub there : finished_at finished (place_of slots v.place (v.count - 1)) ≡ Some event
 
 module _ (K : ℕ) (some_place : 0 < K) (e : Endpoint) (shape : e.shape.slots ≡ suc K) (finished : List ℕ)
-    (fine : (i : ℕ) (event : Words) → i < K → finished_at finished i ≡ place.Event event → accepted (code_of event) ≡ true)
+    (fine : (i : ℕ) (event : Words) → i < K → finished_at finished i ≡ Some event → accepted (code_of event) ≡ true)
     (v : Record) (low : v.place < K) (number : ℕ) where
   abbrev Ends : Type 0
   Ends = Over e.shape.slots finished v
 
-  abbrev pub Out : ReclaimedOne → Type 0
+  abbrev pub Out : After Reclaimed → Type 0
   Out x = (x ≡ nothing e) ⊎ Ends
 
   place_low : (k : ℕ) → place_of e.shape.slots v.place k < K
@@ -63,16 +64,16 @@ module _ (K : ℕ) (some_place : 0 < K) (e : Endpoint) (shape : e.shape.slots �
       rw (same, none) (mod-eq_of_lt low)
 
   -- An event found at TRB k, which is the last.
-  over_at : (k : ℕ) (event : Words) → k + 1 ≡ v.count → finished_at finished (place_of e.shape.slots v.place k) ≡ place.Event event → Ends
+  over_at : (k : ℕ) (event : Words) → k + 1 ≡ v.count → finished_at finished (place_of e.shape.slots v.place k) ≡ Some event → Ends
   over_at k event last said =
       let same : v.count - 1 ≡ k = omega arith in
       record { event = event; there = rw same said }
 
   -- ---- bulk and interrupt
 
-  by_bulk : v.count ≡ 1 → (f : Finished) → finished_at finished v.place ≡ f → Out (bulk_by f e v number)
-  by_bulk one place.Nothing said = inl refl
-  by_bulk one (place.Event event) said = inr (over_at 0 event (omega arith) (rw first_place said))
+  by_bulk : v.count ≡ 1 → (f : Option Words) → finished_at finished v.place ≡ f → Out (bulk_by f e v number)
+  by_bulk one None said = inl refl
+  by_bulk one (Some event) said = inr (over_at 0 event (omega arith) (rw first_place said))
 
   bulk_out : v.count ≡ 1 → Out (reclaim_bulk e finished v number)
   unfolding reclaim_bulk
@@ -80,13 +81,13 @@ module _ (K : ℕ) (some_place : 0 < K) (e : Endpoint) (shape : e.shape.slots �
 
   -- ---- control: no stage ends it but the status
 
-  passes : (f : Finished) → ((event : Words) → f ≡ place.Event event → accepted (code_of event) ≡ true) → stage_by f e v number ≡ onward
-  passes place.Nothing ok = refl
-  passes (place.Event event) ok = rw (ok event refl)
+  passes : (f : Option Words) → ((event : Words) → f ≡ Some event → accepted (code_of event) ≡ true) → stage_by f e v number ≡ onward
+  passes None ok = refl
+  passes (Some event) ok = rw (ok event refl)
 
-  data_fine : (event : Words) → data_seen e finished v ≡ place.Event event → accepted (code_of event) ≡ true
+  data_fine : (event : Words) → data_seen e finished v ≡ Some event → accepted (code_of event) ≡ true
   data_fine event =
-      picked (λ (f : Finished). f ≡ place.Event event → accepted (code_of event) ≡ true) (eqb v.length 0) place.Nothing
+      picked (λ (f : Option Words). f ≡ Some event → accepted (code_of event) ≡ true) (eqb v.length 0) None
       (finished_at finished (data_place e v))
       (λ t q. let z : ◌≡◌ {A = ℕ} 0 1 = cc in absurd (omega arith))
       (λ t q. fine (data_place e v) event (place_low 1) q)
@@ -95,10 +96,10 @@ module _ (K : ℕ) (some_place : 0 < K) (e : Endpoint) (shape : e.shape.slots �
   last_of_control true q = omega arith
   last_of_control false q = omega arith
 
-  by_status : v.count ≡ pick (eqb v.length 0) 2 3 → (f : Finished) (recorded : ℕ) → finished_at finished (status_place e v) ≡ f
+  by_status : v.count ≡ pick (eqb v.length 0) 2 3 → (f : Option Words) (recorded : ℕ) → finished_at finished (status_place e v) ≡ f
       → Out (status_by f e v number recorded)
-  by_status two place.Nothing recorded said = inl refl
-  by_status two (place.Event event) recorded said = inr (over_at (pick (eqb v.length 0) 1 2) event (last_of_control (eqb v.length 0) two) said)
+  by_status two None recorded said = inl refl
+  by_status two (Some event) recorded said = inr (over_at (pick (eqb v.length 0) 1 2) event (last_of_control (eqb v.length 0) two) said)
 
   control_out : v.count ≡ pick (eqb v.length 0) 2 3 → (records : List ℕ) → Out (reclaim_control e finished records v number).0
   unfolding reclaim_control
@@ -112,7 +113,7 @@ module _ (K : ℕ) (some_place : 0 < K) (e : Endpoint) (shape : e.shape.slots �
   Walked s = (s.0 ≡ unfinished) ⊎ Ends
 
   module _ (k : ℕ) (packets : List ℕ) (more : List ℕ → Swept × List ℕ) (onwards : (after : List ℕ) → Walked (more after)) where
-    by_event : (event : Words) → finished_at finished (place_of e.shape.slots v.place k) ≡ place.Event event → (n : ℕ)
+    by_event : (event : Words) → finished_at finished (place_of e.shape.slots v.place k) ≡ Some event → (n : ℕ)
         → Walked (swept_by e.shape.slots finished v number (bytes n) (code_of event) k packets more)
     by_event event said n =
         let marked = put_packet packets number k (counted (packet_at packets number k) n) in
@@ -124,10 +125,10 @@ module _ (K : ℕ) (some_place : 0 < K) (e : Endpoint) (shape : e.shape.slots �
           | false ↦ (λ q. onwards marked)
         ] refl
 
-    by_place : (f : Finished) → finished_at finished (place_of e.shape.slots v.place k) ≡ f
+    by_place : (f : Option Words) → finished_at finished (place_of e.shape.slots v.place k) ≡ f
         → Walked (swept_at e.shape.slots finished v number f k packets more)
-    by_place place.Nothing said = onwards packets
-    by_place (place.Event event) said =
+    by_place None said = onwards packets
+    by_place (Some event) said =
         let asked = (packet_at packets number k).requested in
         rw (worth_counts asked (remaining_of event) (code_of event)
         (accepted_counts (code_of event) (fine (place_of e.shape.slots v.place k) event (place_low k) said)))
@@ -162,12 +163,12 @@ module _ (K : ℕ) (some_place : 0 < K) (e : Endpoint) (shape : e.shape.slots �
   pub flying_out : Counts v → (records packets : List ℕ) → Out (reclaim_flying e finished records packets v number).0
   unfolding reclaim_flying
   flying_out c records packets =
-      picked (λ (x : ReclaimedOne × List ℕ × List ℕ). Out x.0) (eqb v.kind control) _ _
-      (λ t. control_out (c.of_control (eqb-true _ _ t)) records)
-      (λ t. picked (λ (x : ReclaimedOne × List ℕ × List ℕ). Out x.0) (eqb v.kind isoch) _ _
+      picked (λ (x : After Reclaimed × List ℕ × List ℕ). Out x.0) (kind_is v.kind control) _ _
+      (λ t. control_out (c.of_control (kind_true v.kind control t)) records)
+      (λ t. picked (λ (x : After Reclaimed × List ℕ × List ℕ). Out x.0) (kind_is v.kind isoch) _ _
       (λ s. iso_out packets)
-      (λ s. picked (λ (x : ReclaimedOne × List ℕ × List ℕ). Out x.0) (eqb v.kind bulk || eqb v.kind interrupt) _ _
+      (λ s. picked (λ (x : After Reclaimed × List ℕ × List ℕ). Out x.0) (kind_is v.kind bulk || kind_is v.kind interrupt) _ _
       (λ u. bulk_out
       (⊎_elim (λ (q : v.kind ≡ bulk). c.of_bulk q) (λ (q : v.kind ≡ interrupt). c.of_interrupt q)
-      ((either (by_eqb v.kind bulk) (by_eqb v.kind interrupt)).so u)))
+      ((either (by_kind v.kind bulk) (by_kind v.kind interrupt)).so u)))
       (λ u. inl refl)))

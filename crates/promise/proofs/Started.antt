@@ -17,7 +17,10 @@ use Rattle.mask.specs.Occupancy.{held}
 use Rattle.mask.specs.declared.Occupancy.{Occupancy}
 use Rattle.trb.specs.declared.Trb.{Trb}
 use Rattle.trb.specs.declared.Words.{Words}
-use Rattle.records.specs.Records.{in_flight, record_at}
+use Rattle.records.specs.Kinds.{control, bulk, interrupt, isoch}
+use Rattle.records.proofs.KindLaws.{kind_false}
+use Rattle.records.specs.States.{in_flight}
+use Rattle.records.specs.Records.{record_at}
 use Rattle.records.specs.declared.Record.{Record}
 use Rattle.dock.specs.declared.Endpoint.{Endpoint}
 use Rattle.dock.specs.declared.Request.{Request}
@@ -59,26 +62,26 @@ record_counts request count id place = counts request.what
     counts (asks.Control type code value index) = record {
       some = required_some (asks.Control type code value index) request.length count;
       of_control = λ q. refl;
-      of_bulk = λ q. absurd (omega arith);
-      of_interrupt = λ q. absurd (omega arith);
+      of_bulk = λ q. absurd (kind_false control bulk refl q);
+      of_interrupt = λ q. absurd (kind_false control interrupt refl q);
     }
     counts (asks.Bulk incoming) = record {
       some = omega arith;
-      of_control = λ q. absurd (omega arith);
+      of_control = λ q. absurd (kind_false bulk control refl q);
       of_bulk = λ q. refl;
-      of_interrupt = λ q. absurd (omega arith);
+      of_interrupt = λ q. absurd (kind_false bulk interrupt refl q);
     }
     counts (asks.Interrupt incoming) = record {
       some = omega arith;
-      of_control = λ q. absurd (omega arith);
-      of_bulk = λ q. absurd (omega arith);
+      of_control = λ q. absurd (kind_false interrupt control refl q);
+      of_bulk = λ q. absurd (kind_false interrupt bulk refl q);
       of_interrupt = λ q. refl;
     }
     counts (asks.Isoch incoming) = record {
       some = omega arith;
-      of_control = λ q. absurd (omega arith);
-      of_bulk = λ q. absurd (omega arith);
-      of_interrupt = λ q. absurd (omega arith);
+      of_control = λ q. absurd (kind_false isoch control refl q);
+      of_bulk = λ q. absurd (kind_false isoch bulk refl q);
+      of_interrupt = λ q. absurd (kind_false isoch interrupt refl q);
     }
 
 -- ---- the records in flight, with one more

@@ -1,4 +1,5 @@
 -- The next store keeps the invariant: it is the model's store. Assumes nothing.
+use Rattle.std.specs.Prelude.{Some}
 use Prim.Native.Nat.{ℕ, suc, ◌+◌, ◌-◌, ◌*◌, ◌<◌, ◌≤◌}
 use mathlib.Core.Bool.{Bool, true, false, not, false≢true}
 use mathlib.Core.List.{List, [], ◌∷◌}
@@ -19,7 +20,6 @@ use Rattle.ring.specs.declared.Position.{Position}
 use Rattle.ring.proofs.RuleLaws.{store_same, store_other}
 use Rattle.finished.specs.Finished.{finished_at, clear_place}
 use Rattle.records.specs.Records.{record_at}
-use Rattle.finished.specs.declared.Finished.TheVariants.{Event}
 use Rattle.records.specs.declared.Record.{Record}
 use Rattle.finished.proofs.FinishedLaws.{cleared, others_kept}
 use Rattle.dock.specs.declared.Endpoint.{Endpoint}
@@ -54,7 +54,7 @@ module _ (K : ℕ) (some_place : 0 < K) (finished : List ℕ) (stored heard plac
   places_cleared i event l said =
       ⊎_elim
       (λ (q : i ≡ place). absurd
-      (never_event event (sym (cleared finished place room) ∙ subst (λ (x : ℕ). finished_at (clear_place finished place) x ≡ Event event) q said)))
+      (never_event event (sym (cleared finished place room) ∙ subst (λ (x : ℕ). finished_at (clear_place finished place) x ≡ Some event) q said)))
       (λ (d : i ≡ place → ⊥).
       let o = old i event l (sym (others_kept finished place room (record { w0 = 0; w1 = 0; w2 = 0; w3 = 0 }) i d) ∙ said) in
       let again : (pos K (o.latest + K)).place ≡ i = ap (λ (p : model.Position). p.place) (period K some_place o.latest) ∙ o.there in

@@ -1,6 +1,7 @@
 -- Runs whose submissions are whole. Each is a run (`whole_run`), no submission is under way between its moves (`whole_rests`), and a whole submission leaves the
 -- dock as the definition of that call says, whatever steps the controller takes between its stores (`submitted_is`). So what is consumed is a front part of what
 -- is admitted, and L-1 steps consume the remainder, between any two moves. Assumes nothing.
+use Rattle.std.specs.Prelude.{Result, ⊤}
 use Prim.Native.Nat.{ℕ, zero, suc, ◌-◌, ◌≤◌}
 use mathlib.Core.Bool.{true, false, ◌&&◌, false≢true}
 use mathlib.Core.List.{List}
@@ -13,15 +14,15 @@ use lib.ListN.{length}
 use Rattle.base.proofs.Compare.{same_or_not}
 use Rattle.base.proofs.Decide.{if_so, both, by_eqb}
 use Rattle.ids.proofs.AnyLaws.{true_or_false}
-use Rattle.dock.specs.declared.Changed.{Changed}
+use Rattle.dock.specs.declared.After.{After}
+use Rattle.dock.specs.declared.Stored.{Stored}
+use Rattle.dock.specs.declared.Refusal.{Refusal}
+use Rattle.dock.specs.declared.Submitted.{Submitted}
+use Rattle.dock.specs.declared.Reclaimed.{Reclaimed}
 use Rattle.dock.specs.declared.Endpoint.{Endpoint}
 use Rattle.dock.specs.declared.Identity.{Identity}
-use Rattle.dock.specs.declared.ReclaimedOne.{ReclaimedOne}
 use Rattle.dock.specs.declared.Request.{Request}
 use Rattle.dock.specs.declared.Shape.{Shape}
-use Rattle.dock.specs.declared.Stored.{Stored}
-use Rattle.dock.specs.declared.StoredAll.{StoredAll}
-use Rattle.dock.specs.declared.StoredOne.{StoredOne}
 use Rattle.dock.specs.declared.Work.{Work}
 use Rattle.dock.specs.Configure.{configure, plain_no}
 use Rattle.sizes.specs.Sizes.{ring_size}
@@ -62,7 +63,7 @@ number_of s = store_no s.endpoint (length s.ring) (length s.finished) s.records 
 -- A store that is refused changes nothing,
 refused_stays : (s : State) → (number_of s ≡ 0 → ⊥) → after s stores ≡ s
 refused_stays s p =
-    ap (λ (a : StoredOne × List ℕ × List ℕ). state_of a.0.endpoint a.1 a.2 s.records s.packets)
+    ap (λ (a : After Stored × List ℕ × List ℕ). state_of a.0.endpoint a.1 a.2 s.records s.packets)
     (store_refuses s.endpoint s.ring s.finished s.records s.packets p)
 
 -- and with no submission under way every store is refused.
@@ -85,17 +86,17 @@ after_finish n s =
     state_of a.0.endpoint a.1 a.2 s.records s.packets
 
 module _ (n : ℕ) (s : State) where
-  abbrev one : StoredOne × List ℕ × List ℕ
+  abbrev one : After Stored × List ℕ × List ℕ
   one = store s.endpoint s.ring s.finished s.records s.packets
 
   -- What follows a store, by its answer.
-  finish_by : (x : Stored) → one.0.answer ≡ x → after_finish (suc n) s
+  finish_by : (x : Result Stored Refusal) → one.0.answer ≡ x → after_finish (suc n) s
       ≡ (let a =
       submitting.after_store x one.0.endpoint one.1 one.2 (λ e ring finished. finish n e ring finished s.records s.packets) in
       state_of a.0.endpoint a.1 a.2 s.records s.packets)
   unfolding after_finish finish
   finish_by x q =
-      ap (λ (y : Stored).
+      ap (λ (y : Result Stored Refusal).
       let a = submitting.after_store y one.0.endpoint one.1 one.2 (λ e ring finished. finish n e ring finished s.records s.packets) in
       state_of a.0.endpoint a.1 a.2 s.records s.packets)
       q
@@ -104,21 +105,21 @@ module _ (n : ℕ) (s : State) where
   finish_on : number_of s ≡ 0 → last_store s.endpoint s.records s.packets ≡ false → after_finish (suc n) s ≡ after_finish n (after s stores)
   unfolding after_finish
   finish_on p more =
-      finish_by _ (ap (λ (a : StoredOne). a.answer) (store_goes_on s.endpoint s.ring s.finished s.records s.packets p more))
+      finish_by _ (ap (λ (a : After Stored). a.answer) (store_goes_on s.endpoint s.ring s.finished s.records s.packets p more))
 
   -- or it ends.
   finish_last : number_of s ≡ 0 → last_store s.endpoint s.records s.packets ≡ true → after_finish (suc n) s ≡ after s stores
   finish_last p last =
-      finish_by _ (ap (λ (a : StoredOne). a.answer) (store_ends s.endpoint s.ring s.finished s.records s.packets p last))
+      finish_by _ (ap (λ (a : After Stored). a.answer) (store_ends s.endpoint s.ring s.finished s.records s.packets p last))
 
   finish_refused : (number_of s ≡ 0 → ⊥) → after_finish (suc n) s ≡ after s stores
   finish_refused p =
-      finish_by _ (ap (λ (a : StoredOne × List ℕ × List ℕ). a.0.answer)
+      finish_by _ (ap (λ (a : After Stored × List ℕ × List ℕ). a.0.answer)
       (store_refuses s.endpoint s.ring s.finished s.records s.packets p))
 
   over_rests : number_of s ≡ 0 → last_store s.endpoint s.records s.packets ≡ true → (after s stores).endpoint.work.busy ≡ false
   over_rests p last =
-      ap (λ (a : StoredOne). a.endpoint.work.busy) (store_ends s.endpoint s.ring s.finished s.records s.packets p last)
+      ap (λ (a : After Stored). a.endpoint.work.busy) (store_ends s.endpoint s.ring s.finished s.records s.packets p last)
 
 stores_finish : (n : ℕ) (s : State) → stores_of n s ≡ after_finish n s
 unfolding stores_of after_finish finish
@@ -182,10 +183,10 @@ module _ (w : World) (h : Sound w.dock) (request : Request) (lengths : List ℕ)
   unfolding after_finish
   admitted_is p =
       stored_dock
-      ∙ ap (λ (a : Changed × List ℕ × List ℕ). after_finish (most_stores request (length lengths))
+      ∙ ap (λ (a : After ⊤ × List ℕ × List ℕ). after_finish (most_stores request (length lengths))
       (state_of a.0.endpoint s.ring s.finished a.1 a.2))
       (start_acts s.endpoint s.records s.packets request lengths p)
-      ∙ ap (λ (a : StoredAll × List ℕ × List ℕ × List ℕ × List ℕ). state_of a.0.endpoint a.1 a.2 a.3 a.4)
+      ∙ ap (λ (a : After Submitted × List ℕ × List ℕ × List ℕ × List ℕ). state_of a.0.endpoint a.1 a.2 a.3 a.4)
       (sym (submit_acts s.endpoint s.ring s.finished s.records s.packets request lengths (as_start ∙ p)))
 
   module _ (free : s.endpoint.work.busy ≡ false) where
@@ -193,13 +194,13 @@ module _ (w : World) (h : Sound w.dock) (request : Request) (lengths : List ℕ)
     unfolding submitted
     refused_is p =
         let same : after s (starts request lengths) ≡ s =
-        ap (λ (a : Changed × List ℕ × List ℕ). state_of a.0.endpoint s.ring s.finished a.1 a.2)
+        ap (λ (a : After ⊤ × List ℕ × List ℕ). state_of a.0.endpoint s.ring s.finished a.1 a.2)
         (start_refuses s.endpoint s.records s.packets request lengths p) in
         storing_dock (most_stores request (length lengths)) pauses (act w (calls (starts request lengths)))
         ∙ ap (stores_of (most_stores request (length lengths))) (started_dock w request lengths ∙ same)
         ∙ stays (most_stores request (length lengths)) s (rest_stays s free)
         ∙ sym
-        (ap (λ (a : StoredAll × List ℕ × List ℕ × List ℕ × List ℕ). state_of a.0.endpoint a.1 a.2 a.3 a.4)
+        (ap (λ (a : After Submitted × List ℕ × List ℕ × List ℕ × List ℕ). state_of a.0.endpoint a.1 a.2 a.3 a.4)
         (submit_refuses s.endpoint s.ring s.finished s.records s.packets request lengths (λ z. p (sym as_start ∙ z))))
 
     pub submitted_is : (submitted w request lengths pauses).dock ≡ after s (submits request lengths)
@@ -215,7 +216,7 @@ module _ (w : World) (h : Sound w.dock) (request : Request) (lengths : List ℕ)
         (λ (p : passes). ap (λ (x : Work). x.busy)
         (submit_done s.endpoint s.ring s.finished s.records s.packets request lengths p h.ring_long h.finished_long).1)
         (λ (p : passes → ⊥).
-        ap (λ (a : StoredAll × List ℕ × List ℕ × List ℕ × List ℕ). a.0.endpoint.work.busy)
+        ap (λ (a : After Submitted × List ℕ × List ℕ × List ℕ × List ℕ). a.0.endpoint.work.busy)
         (submit_refuses s.endpoint s.ring s.finished s.records s.packets request lengths (λ z. p (sym as_start ∙ z)))
         ∙ free)
         (same_or_not (start_no s.endpoint s.records (length s.packets) request lengths) 0)
@@ -247,7 +248,7 @@ whole_run (and_submits {w} r request lengths pauses fits) = submitted_run w requ
 configure_rests : (s : State) (packet burst interval : ℕ) → (configure s.endpoint packet burst interval).endpoint.work ≡ s.endpoint.work
 unfolding configure
 configure_rests s packet burst interval =
-    picked (λ (c : Changed). c.endpoint.work ≡ s.endpoint.work) (eqb (plain_no s.endpoint) 0) _ _ (λ t. refl) (λ t. refl)
+    picked (λ (c : After ⊤). c.endpoint.work ≡ s.endpoint.work) (eqb (plain_no s.endpoint) 0) _ _ (λ t. refl) (λ t. refl)
 
 reclaim_rests : (s : State) (id : ℕ) → (after s (reclaims id)).endpoint.work ≡ s.endpoint.work
 unfolding leave
@@ -257,7 +258,7 @@ reclaim_rests s id =
     (λ (u : Untouched s t). ap (λ (x : Endpoint). x.work) u.endpoint)
     (λ (u : Looked s id t).
     ⊎_elim
-    (λ (n : t.0 ≡ nothing s.endpoint). ap (λ (x : ReclaimedOne). x.endpoint.work) n)
+    (λ (n : t.0 ≡ nothing s.endpoint). ap (λ (x : After Reclaimed). x.endpoint.work) n)
     (λ (n : Left s.endpoint u.number (flight_part s.records s.endpoint.account.occupancy u.number) t.0). ap
     (λ (x : Endpoint). x.work) n.gone)
     u.touches.end)
@@ -289,7 +290,7 @@ made_rests : (ring finished records packets : List ℕ) (shape : Shape) (who : I
     → (made_of (make ring finished records packets shape who)).endpoint.work.busy ≡ false
 unfolding make
 made_rests ring finished records packets shape who =
-    picked (λ (t : Changed × List ℕ × List ℕ × List ℕ × List ℕ). (made_of t).endpoint.work.busy ≡ false)
+    picked (λ (t : After ⊤ × List ℕ × List ℕ × List ℕ × List ℕ). (made_of t).endpoint.work.busy ≡ false)
     (eqb (make_no (length ring) (length finished) (length records) (length packets) shape who) 0) _ _ (λ t. refl) (λ t. refl)
 
 dock_rests : {w : World} → WholeRun w → w.dock.endpoint.work.busy ≡ false

@@ -11,7 +11,7 @@ use Rattle.trb.specs.declared.Trb.{Trb}
 use Rattle.trb.specs.declared.Words.{Words}
 use Rattle.ring.specs.Ring.{slot_address}
 use Rattle.dock.specs.declared.Identity.{Identity}
-use Rattle.dock.specs.declared.Outcome.TheVariants.{Done}
+use Rattle.dock.specs.Refusals.{done}
 use Rattle.dock.specs.declared.Request.{Request}
 use Rattle.dock.specs.declared.Shape.{Shape}
 use Rattle.dock.specs.Make.{make}
@@ -264,7 +264,7 @@ from_making shape who d =
 
 pub data Run : World → Type 0 where
   made : (ring finished records packets : List ℕ) (shape : Shape) (who : Identity)
-      → (make ring finished records packets shape who).0.answer ≡ Done
+      → (make ring finished records packets shape who).0.answer ≡ done
       → Run (from_making shape who (made_of (make ring finished records packets shape who)))
   and_then : {w : World} → Run w → (m : Move) → may w m ≡ true → Run (act w m)
 

@@ -1,7 +1,7 @@
 -- Runs whose submissions are whole: a start and its stores, with steps of the controller between them and no other call.
 use Rattle.std.specs.Prelude.{ℕ, zero, suc, Bool, true, false, List, ◌≡◌, length}
 use Rattle.dock.specs.declared.Identity.{Identity}
-use Rattle.dock.specs.declared.Outcome.TheVariants.{Done}
+use Rattle.dock.specs.Refusals.{done}
 use Rattle.dock.specs.declared.Request.{Request}
 use Rattle.dock.specs.declared.Shape.{Shape}
 use Rattle.dock.specs.Make.{make}
@@ -34,7 +34,7 @@ between steps = true
 
 pub data WholeRun : World → Type 0 where
   made : (ring finished records packets : List ℕ) (shape : Shape) (who : Identity)
-      → (make ring finished records packets shape who).0.answer ≡ Done
+      → (make ring finished records packets shape who).0.answer ≡ done
       → WholeRun (from_making shape who (made_of (make ring finished records packets shape who)))
   and_then : {w : World} → WholeRun w → (m : Move) → between m ≡ true → may w m ≡ true → WholeRun (act w m)
   and_submits : {w : World} → WholeRun w → (request : Request) (lengths : List ℕ) (pauses : ℕ → ℕ) → typed request.what ≡ true

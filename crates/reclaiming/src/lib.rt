@@ -8,47 +8,33 @@
 #![tactic(auto)]
 
 ghost use Rattle.std.specs.Prelude.{◌≡◌, false, ◌≤◌, length};
-ghost use Rattle.sizes.specs.Sizes.{records_size, packet_count, packets_size, isoch};
+ghost use Rattle.sizes.specs.Sizes.{records_size, packet_count, packets_size};
+ghost use Rattle.records.specs.Kinds.{isoch};
 ghost use Rattle.records.specs.Records.{record_at};
 ghost use Rattle.dock.specs.Reclaim.{reclaim_flying, reclaim};
 ghost use Rattle.checks.specs.Shown.{Shown};
 ghost use Rattle.refusal.specs.Misplaced.{misplaced};
 ghost use Rattle.reclaiming.specs.Parts.{reclaim_at};
 
-use completing::unfinished;
-use dock::{Endpoint, Reclaimed, ReclaimedOne};
-use ids::Lookup;
-use records::{IN_FLIGHT, Record, STOPPED};
-use sizes::{BULK, CONTROL, INTERRUPT, ISOCH};
+use completing::{Claim, Flight, unfinished};
+use dock::{After, Endpoint, Reclaimed};
+use records::{Kind, State};
 use stages::bulk::reclaim_bulk;
 use stages::control::reclaim_control;
 use walk::reclaim_iso;
 
 // A record in flight, by its kind; a kind that is none never finishes.
-fn reclaim_flying(
-    e: Endpoint,
-    finished: &[u32],
-    records: &mut [u64],
-    packets: &mut [u64],
-    v: Record,
-    number: usize,
-) -> ReclaimedOne
-    requires { (Shown e.shape.slots (length finished.now) v.place number) × (length records.old ≡ records_size) × (length packets.old ≡ packets_size) × (v.kind ≡ isoch → v.count ≤ packet_count) }
-    ensures { (result, records.new, packets.new) ≡ reclaim_flying e finished.now records.old packets.old v number }
+#[tactic(auto, unfolding(dock::specs::Reclaim::reclaim_flying))]
+fn reclaim_flying(flight: Flight, records: &mut [u64], packets: &mut [u64]) -> After<Reclaimed>
+    requires { (length records.old ≡ records_size) × (length packets.old ≡ packets_size) × (flight.claim.record.kind ≡ isoch → flight.claim.record.count ≤ packet_count) }
+    ensures { (result, records.new, packets.new) ≡ reclaim_flying flight.entry.claim.endpoint flight.entry.finished.now records.old packets.old flight.entry.claim.record flight.entry.claim.number }
 {
-    if v.kind == CONTROL {
-        return reclaim_control(e, finished, records, v, number);
+    match flight.claim.record.kind {
+        Some(Kind::Control) => reclaim_control(flight, records),
+        Some(Kind::Isoch) => reclaim_iso(flight, packets),
+        Some(Kind::Bulk | Kind::Interrupt) => reclaim_bulk(flight),
+        None => unfinished(flight.claim.endpoint),
     }
-    if v.kind == ISOCH {
-        return reclaim_iso(e, finished, packets, v, number);
-    }
-    if v.kind == BULK {
-        return reclaim_bulk(e, finished, v, number);
-    }
-    if v.kind == INTERRUPT {
-        return reclaim_bulk(e, finished, v, number);
-    }
-    unfinished(e)
 }
 
 // Record r, by its state. A stopped one's TRBs left flight when it was retired.
@@ -59,18 +45,21 @@ fn reclaim_at(
     records: &mut [u64],
     packets: &mut [u64],
     r: usize,
-) -> ReclaimedOne
+) -> After<Reclaimed>
     requires { (Shown e.shape.slots (length finished.now) 0 r) × (length records.old ≡ records_size) × (length packets.old ≡ packets_size) × (misplaced e.shape.slots (record_at records.old r) ≡ false) }
     ensures { (result, records.new, packets.new) ≡ reclaim_at r e finished.now records.old packets.old }
 {
     let v = records::record_at(records, r);
-    if v.state == STOPPED {
-        return completing::stopped(e, v, r);
+    let claim = Claim {
+        endpoint: e,
+        record: v,
+        number: r,
+    };
+    match v.state {
+        Some(State::Stopped) => claim.stopped(),
+        Some(State::InFlight) => reclaim_flying(Flight { claim, finished }, records, packets),
+        None => unfinished(e),
     }
-    if v.state == IN_FLIGHT {
-        return reclaim_flying(e, finished, records, packets, v, r);
-    }
-    unfinished(e)
 }
 
 // A request is reclaimed by its id.
@@ -80,19 +69,19 @@ pub fn reclaim_request(
     records: &mut [u64],
     packets: &mut [u64],
     id: u64,
-) -> ReclaimedOne
+) -> After<Reclaimed>
     ensures { (result, records.new, packets.new) ≡ reclaim e finished.now records.old packets.old id }
 {
-    let no = refusal::reclaim_no(e, finished.len(), records, packets.len(), id);
-    if no != 0 {
-        return ReclaimedOne {
-            answer: Reclaimed::Refused(no),
+    let checked = refusal::reclaim_no(e, finished.len(), records, packets.len(), id);
+    if let Err(refusal) = checked {
+        return After {
+            answer: Err(refusal),
             endpoint: e,
         };
     }
     let found = ids::find_id(records, e.account.occupancy, id);
     match found {
-        Lookup::Nothing => completing::unfinished(e),
-        Lookup::At(r) => reclaim_at(e, finished, records, packets, r),
+        None => unfinished(e),
+        Some(r) => reclaim_at(e, finished, records, packets, r),
     }
 }

@@ -1,2 +1,4 @@
 -- The definitions that the contracts of `records` cite.
+pub mod Kinds
+pub mod States
 pub mod Records

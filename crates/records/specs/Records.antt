@@ -2,14 +2,9 @@
 use Rattle.std.specs.Prelude.{ℕ, ◌+◌, ◌*◌, Bool, not, List, [], ◌∷◌, eqb, get_or, set}
 use Rattle.base.specs.Fields.{flag}
 use Rattle.sizes.specs.Sizes.{record_words}
+use Rattle.records.specs.Kinds.{kind_in, word_of_kind}
+use Rattle.records.specs.States.{state_in, word_of_state}
 use Rattle.records.specs.declared.Record.{Record}
-
--- The states of a held record.
-abbrev pub in_flight : ℕ
-in_flight = 1
-
-abbrev pub stopped : ℕ
-stopped = 2
 
 -- The words that change while a record is held.
 abbrev pub state_word : ℕ
@@ -34,9 +29,9 @@ abbrev pub record_of : (ℕ → ℕ) → Record
 record_of word =
     record {
       id = word 0;
-      kind = word 1;
+      kind = kind_in (word 1);
       incoming = is_set (word 2);
-      state = word state_word;
+      state = state_in (word state_word);
       cancelled = is_set (word cancelled_word);
       address = word 5;
       length = word 6;
@@ -58,9 +53,9 @@ record_at records r = record_of (word_at records r)
 abbrev pub record_list : Record → List ℕ
 record_list v =
     v.id
-    ∷ v.kind
+    ∷ word_of_kind v.kind
     ∷ flag v.incoming
-    ∷ v.state
+    ∷ word_of_state v.state
     ∷ flag v.cancelled
     ∷ v.address
     ∷ v.length

@@ -1,5 +1,6 @@
 -- What the tests of the three calls leave: where no refusal holds, the tables have their sizes, the event's slot is one of the ring's, and the record
 -- that is reclaimed has a place and packets that fit. Assumes nothing.
+use Rattle.std.specs.Prelude.{Some, None}
 use Prim.Native.Nat.{ℕ, ◌+◌, ◌-◌, ◌*◌, ◌/◌, ◌%◌, ◌≤◌, ◌<◌}
 use mathlib.Core.Bool.{Bool, true, false, not, ◌&&◌, ◌||◌, and-eq-true_iff, true≢false}
 use mathlib.Core.List.{List}
@@ -12,17 +13,19 @@ use Rattle.base.specs.First.{pick}
 use Rattle.base.proofs.Chosen.{quiet}
 use Rattle.mask.specs.Occupancy.{held}
 use Rattle.mask.specs.declared.Occupancy.{Occupancy}
-use Rattle.sizes.specs.Sizes.{ring_size, record_count, records_size, packet_count, packets_size, isoch}
+use Rattle.sizes.specs.Sizes.{ring_size, record_count, records_size, packet_count, packets_size}
 use Rattle.ids.specs.Free.{id_at, held_by}
 use Rattle.ids.specs.Lookup.{find_in, Finds}
-use Rattle.ids.specs.declared.Lookup.TheVariants.{At}
 use Rattle.ids.proofs.LookupLaws.{find_finds}
 use Rattle.ring.specs.Ring.{is_slot, slot_of}
-use Rattle.ring.specs.declared.Slot.TheVariants as slot
 use Rattle.event.specs.Event.{event_of}
 use Rattle.event.specs.declared.Event.{Event}
 use Rattle.trb.specs.declared.Words.{Words}
-use Rattle.records.specs.Records.{in_flight, record_at}
+use Rattle.records.specs.Kinds.{kind_is, isoch}
+use Rattle.records.proofs.KindLaws.{eq_kind}
+use Rattle.records.specs.States.{in_flight}
+use Rattle.records.proofs.StateLaws.{eq_state}
+use Rattle.records.specs.Records.{record_at}
 use Rattle.records.specs.declared.Record.{Record}
 use Rattle.dock.specs.RowOne.{fits, fits_with}
 use Rattle.dock.specs.HandOver.{is_outside, slot_number, slot_for, foreign, hand_over_tests, hand_over_no}
@@ -34,7 +37,7 @@ use Rattle.checks.specs.Shown.{Shown}
 use Rattle.refusal.specs.Misplaced.{misplaced}
 
 -- A record that is found is one of the table's.
-pub found_within : (records : List ℕ) (occupancy : Occupancy) (id r : ℕ) → At r ≡ find_in records occupancy id → r < record_count
+pub found_within : (records : List ℕ) (occupancy : Occupancy) (id r : ℕ) → Some r ≡ find_in records occupancy id → r < record_count
 found_within records occupancy id r e =
     (subst (Finds record_count (held_by (held occupancy) (id_at records) id)) (sym e) (find_finds record_count (held occupancy) (id_at records) id)).within
 
@@ -45,8 +48,8 @@ or_false false b e = (refl, e)
 -- ---- an event
 
 module _ (base slots address : ℕ) where
-  below_by : (b : Bool) → is_slot base slots address ≡ b → is_outside (pick b (slot.At ((address - base) / 16)) slot.Outside) ≡ false
-      → slot_number (pick b (slot.At ((address - base) / 16)) slot.Outside) < slots
+  below_by : (b : Bool) → is_slot base slots address ≡ b → is_outside (pick b (Some ((address - base) / 16)) None) ≡ false
+      → slot_number (pick b (Some ((address - base) / 16)) None) < slots
   unfolding is_slot
   below_by true e inside = ltb-true _ _ ((and-eq-true_iff (leb base address && eqb ((address - base) % 16) 0) (ltb ((address - base) / 16) slots)).0 e).1
   below_by false e inside = absurd (true≢false inside)
@@ -116,7 +119,7 @@ reclaimable e finished records packets id none =
     let f = fitted e finished records packets (not-false _ (quiet ts 0 refl none (omega arith))) in (f.0, f.1, f.2, quiet ts 1 refl none (omega arith))
 
 -- The test of a record that is found.
-pub bad_found : (e : Endpoint) (records : List ℕ) (r : ℕ) → misplaced e.shape.slots (record_at records r) ≡ bad_record e records (At r)
+pub bad_found : (e : Endpoint) (records : List ℕ) (r : ℕ) → misplaced e.shape.slots (record_at records r) ≡ bad_record e records (Some r)
 unfolding misplaced
 bad_found e records r = refl
 
@@ -125,8 +128,8 @@ pub well_placed : (slots : ℕ) (v : Record) → misplaced slots v ≡ false →
     → (v.place + 1 < slots) × (v.kind ≡ isoch → v.count ≤ packet_count)
 unfolding misplaced
 well_placed slots v t s =
-    let flies = simp (eq-eqb v.state in_flight s) at t in
-    let parts = or_false (leb slots (v.place + 1)) (eqb v.kind isoch && ltb packet_count v.count) flies in (
+    let flies = simp (eq_state v.state in_flight s) at t in
+    let parts = or_false (leb slots (v.place + 1)) (kind_is v.kind isoch && ltb packet_count v.count) flies in (
       leb-false _ _ parts.0,
-      λ k. ltb-false packet_count v.count (simp (eq-eqb v.kind isoch k) at parts.1),
+      λ k. ltb-false packet_count v.count (simp (eq_kind v.kind isoch k) at parts.1),
     )

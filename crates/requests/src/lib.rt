@@ -1,26 +1,21 @@
 // What a request asks for, case by case, and the record that is kept of it.
 #![tactic(auto)]
 
-ghost use Rattle.std.specs.Prelude.{◌≡◌, ◌+◌, ◌*◌, ◌^◌, max, eqb};
+ghost use Rattle.std.specs.Prelude.{◌≡◌, ◌+◌, ◌*◌, ◌^◌, eqb};
 ghost use Rattle.base.specs.First.{pick};
 ghost use Rattle.dock.specs.Requests.{kind_of, incoming_of, setup_of, given_of, required, buffer_of, record_for};
 
 use dock::{Request, What};
-use records::Record;
+use records::{Kind, Record, State};
 
-pub fn kind_of(what: What) -> u64
+pub fn kind_of(what: What) -> Kind
     ensures { result ≡ kind_of what }
 {
     match what {
-        What::Control {
-            request_type: _,
-            request: _,
-            value: _,
-            index: _,
-        } => sizes::CONTROL,
-        What::Bulk { incoming: _ } => sizes::BULK,
-        What::Interrupt { incoming: _ } => sizes::INTERRUPT,
-        What::Isoch { incoming: _ } => sizes::ISOCH,
+        What::Control { .. } => Kind::Control,
+        What::Bulk { .. } => Kind::Bulk,
+        What::Interrupt { .. } => Kind::Interrupt,
+        What::Isoch { .. } => Kind::Isoch,
     }
 }
 
@@ -29,15 +24,9 @@ pub fn incoming_of(what: What) -> bool
     ensures { result ≡ incoming_of what }
 {
     match what {
-        What::Control {
-            request_type,
-            request: _,
-            value: _,
-            index: _,
-        } => request_type / 128 % 2 == 1,
-        What::Bulk { incoming } => incoming,
-        What::Interrupt { incoming } => incoming,
-        What::Isoch { incoming } => incoming,
+        What::Control { request_type, .. } => request_type / 128 % 2 == 1,
+        What::Bulk { incoming } | What::Interrupt { incoming } | What::Isoch { incoming } =>
+            incoming,
     }
 }
 
@@ -59,9 +48,7 @@ pub fn setup_of(what: What) -> u64
             value,
             index,
         } => setup_number(request_type, request, value, index),
-        What::Bulk { incoming: _ } => 0,
-        What::Interrupt { incoming: _ } => 0,
-        What::Isoch { incoming: _ } => 0,
+        What::Bulk { .. } | What::Interrupt { .. } | What::Isoch { .. } => 0,
     }
 }
 
@@ -70,9 +57,10 @@ pub fn buffer_of(request: Request) -> u64
     ensures { result ≡ buffer_of request }
 {
     if request.length == 0 {
-        return 0;
+        0
+    } else {
+        request.address
     }
-    request.address
 }
 
 // The packets given with a request, of so many lengths.
@@ -80,15 +68,8 @@ pub fn given_of(what: What, count: usize) -> u64
     ensures { result ≡ given_of what count }
 {
     match what {
-        What::Control {
-            request_type: _,
-            request: _,
-            value: _,
-            index: _,
-        } => 0,
-        What::Bulk { incoming: _ } => 0,
-        What::Interrupt { incoming: _ } => 0,
-        What::Isoch { incoming: _ } => count as u64,
+        What::Control { .. } | What::Bulk { .. } | What::Interrupt { .. } => 0,
+        What::Isoch { .. } => count as u64,
     }
 }
 
@@ -96,37 +77,17 @@ pub fn given_of(what: What, count: usize) -> u64
 fn stages(length: u64) -> u64
     ensures { result ≡ pick (eqb length 0) 2 3 }
 {
-    if length == 0 {
-        return 2;
-    }
-    3
+    if length == 0 { 2 } else { 3 }
 }
 
-// "No packets means one packet of length 0."
-fn one_or_more(count: usize) -> u64
-    ensures { result ≡ max 1 count }
-{
-    if count == 0 {
-        return 1;
-    }
-    count as u64
-}
-
-// The TRBs that a request takes.
+// The TRBs that a request takes. "No packets means one packet of length 0."
 pub fn required_of(request: Request, count: usize) -> u64
     ensures { result ≡ required request count }
 {
-    let what = request.what;
-    match what {
-        What::Control {
-            request_type: _,
-            request: _,
-            value: _,
-            index: _,
-        } => stages(request.length),
-        What::Bulk { incoming: _ } => 1,
-        What::Interrupt { incoming: _ } => 1,
-        What::Isoch { incoming: _ } => one_or_more(count),
+    match request.what {
+        What::Control { .. } => stages(request.length),
+        What::Bulk { .. } | What::Interrupt { .. } => 1,
+        What::Isoch { .. } => count.max(1) as u64,
     }
 }
 
@@ -137,9 +98,9 @@ pub fn record_for(request: Request, count: usize, id: u64, place: usize) -> Reco
     let what = request.what;
     Record {
         id,
-        kind: kind_of(what),
+        kind: Some(kind_of(what)),
         incoming: incoming_of(what),
-        state: records::IN_FLIGHT,
+        state: Some(State::InFlight),
         cancelled: false,
         address: buffer_of(request),
         length: request.length,

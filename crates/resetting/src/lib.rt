@@ -5,10 +5,11 @@ ghost use Rattle.std.specs.Prelude.{◌≡◌, ◌+◌, ◌-◌, ◌*◌, ◌<�
 ghost use Rattle.sizes.specs.Sizes.{record_count, records_size};
 ghost use Rattle.ids.specs.Free.{any};
 ghost use Rattle.dock.specs.RowOne.{flies};
+ghost use Rattle.dock.specs.Refusals.{verdict};
 ghost use Rattle.dock.specs.Reset.{begin_no, begin_reset, end_no, end_reset};
 ghost use Rattle.resetting.specs.Steps.{occupied_by};
 
-use dock::{Changed, Endpoint, Flags, Outcome, ResetBegun, Resetting};
+use dock::{After, Endpoint, Flags, Refusal, ResetCommands, refuse};
 use mask::Occupancy;
 use sizes::RECORD_COUNT;
 
@@ -17,60 +18,46 @@ fn some_flying(records: &[u64], occupancy: Occupancy) -> bool
     requires { length records.now ≡ records_size }
     ensures { result ≡ any record_count (flies records.now occupancy) }
 {
-    let mut r: usize = 0;
-    while r < RECORD_COUNT {
-        if retiring::is_flying(records, occupancy, r) {
-            return true;
-        }
-        r += 1;
-    }
-    false
+    (0..RECORD_COUNT).any(|r| retiring::is_flying(records, occupancy, r))
 }
 
 // Are there requests in flight, or TRBs outstanding?
+#[tactic(auto, unfolding(crate::specs::Steps::occupied_by))]
 fn is_occupied(records: &[u64], occupancy: Occupancy, outstanding: u64) -> bool
     requires { length records.now ≡ records_size }
     ensures { result ≡ occupied_by records.now occupancy outstanding }
 {
-    if some_flying(records, occupancy) {
-        return true;
-    }
-    outstanding != 0
-}
-
-fn both(a: bool, b: bool) -> bool
-    ensures { result ≡ (a && b) }
-{
-    if a { b } else { false }
+    some_flying(records, occupancy) || outstanding != 0
 }
 
 // The refusals of the begin of a reset.
-fn begin_no(e: Endpoint, records: &[u64]) -> u32
-    ensures { result ≡ begin_no e records.now }
+#[tactic(auto, unfolding(dock::specs::Reset::begin_no, dock::specs::Reset::begin_tests, dock::specs::Reset::occupied, crate::specs::Steps::occupied_by))]
+fn begin_no(e: Endpoint, records: &[u64]) -> Result<(), Refusal>
+    ensures { result ≡ verdict (begin_no e records.now) }
 {
-    let no = checks::record_no(e, records);
-    if no != 0 {
-        return no;
-    }
-    let occupied = is_occupied(records, e.account.occupancy, e.account.outstanding);
-    let no = base::earlier(0, occupied, 2);
-    base::earlier(no, both(e.flags.halted, e.flags.reset), 2)
+    refuse(!checks::fits_with(e, records), Refusal::Unfit)?;
+    refuse(e.work.busy, Refusal::Busy)?;
+    refuse(
+        is_occupied(records, e.account.occupancy, e.account.outstanding),
+        Refusal::QueueFull,
+    )?;
+    refuse(e.flags.halted && e.flags.reset, Refusal::QueueFull)
 }
 
 // Begins a reset: nothing to do where nothing is halted, else the words of two commands.
-pub fn begin_reset(e: Endpoint, records: &[u64]) -> ResetBegun
+pub fn begin_reset(e: Endpoint, records: &[u64]) -> After<Option<ResetCommands>>
     ensures { result ≡ begin_reset e records.now }
 {
-    let no = begin_no(e, records);
-    if no != 0 {
-        return ResetBegun {
-            answer: Resetting::Refused(no),
+    let checked = begin_no(e, records);
+    if let Err(refusal) = checked {
+        return After {
+            answer: Err(refusal),
             endpoint: e,
         };
     }
     if !e.flags.halted {
-        return ResetBegun {
-            answer: Resetting::Clear,
+        return After {
+            answer: Ok(None),
             endpoint: e,
         };
     }
@@ -82,40 +69,41 @@ pub fn begin_reset(e: Endpoint, records: &[u64]) -> ResetBegun
     };
     let mut next = e;
     next.flags = flags;
-    ResetBegun {
-        answer: Resetting::Commands { reset, dequeue },
+    After {
+        answer: Ok(Some(ResetCommands { reset, dequeue })),
         endpoint: next,
     }
 }
 
 // The refusals of the end of a reset.
-fn end_no(e: Endpoint) -> u32
-    ensures { result ≡ end_no e }
+#[tactic(auto, unfolding(dock::specs::Reset::end_no, dock::specs::Reset::end_tests))]
+fn end_no(e: Endpoint) -> Result<(), Refusal>
+    ensures { result ≡ verdict (end_no e) }
 {
-    let no = checks::plain_no(e);
-    base::earlier(no, !e.flags.reset, 10)
+    refuse(!checks::fits(e), Refusal::Unfit)?;
+    refuse(e.work.busy, Refusal::Busy)?;
+    refuse(!e.flags.reset, Refusal::NotUnderWay)
 }
 
 // Ends a reset, told whether its commands worked.
-pub fn end_reset(e: Endpoint, worked: bool) -> Changed
+pub fn end_reset(e: Endpoint, worked: bool) -> After<()>
     ensures { result ≡ end_reset e worked }
 {
-    let no = end_no(e);
-    if no != 0 {
-        return Changed {
-            answer: Outcome::Refused(no),
+    let checked = end_no(e);
+    if let Err(refusal) = checked {
+        return After {
+            answer: Err(refusal),
             endpoint: e,
         };
     }
-    let halted = both(e.flags.halted, !worked);
     let flags = Flags {
-        halted,
+        halted: e.flags.halted && !worked,
         reset: false,
     };
     let mut next = e;
     next.flags = flags;
-    Changed {
-        answer: Outcome::Done,
+    After {
+        answer: Ok(()),
         endpoint: next,
     }
 }

@@ -7,9 +7,9 @@ ghost use Rattle.dock.specs.RowOne.{flies};
 ghost use Rattle.dock.specs.Retire.{retired_below, retire};
 ghost use Rattle.retiring.specs.Steps.{retire_one};
 
-use dock::{Account, Changed, Endpoint, Outcome};
+use dock::{After, Endpoint};
 use mask::Occupancy;
-use records::{IN_FLIGHT, STATE, STOPPED};
+use records::{STATE_WORD, State};
 use sizes::RECORD_COUNT;
 
 // Is the record held, and its request in flight?
@@ -17,24 +17,11 @@ pub fn is_flying(records: &[u64], occupancy: Occupancy, r: usize) -> bool
     requires { (length records.now ≡ records_size) × (r < record_count) }
     ensures { result ≡ flies records.now occupancy r }
 {
-    if !mask::is_held(occupancy, r) {
-        return false;
-    }
-    let v = records::record_at(records, r);
-    v.state == IN_FLIGHT
+    occupancy.is_held(r) && records::record_at(records, r).state == Some(State::InFlight)
 }
 
-// a less b, and never below 0.
-fn less(a: u64, b: u64) -> u64
-    ensures { result ≡ a - b }
-{
-    if a < b {
-        return 0;
-    }
-    a - b
-}
-
-// One record: a request in flight becomes stopped, and its TRBs leave outstanding.
+// One record: a request in flight becomes stopped, and its TRBs leave outstanding, which never goes below 0.
+#[tactic(auto, unfolding(crate::specs::Steps::retire_one))]
 fn retire_one(records: &mut [u64], occupancy: Occupancy, outstanding: u64, r: usize) -> u64
     requires { (length records.old ≡ records_size) × (r < record_count) }
     ensures { (result, records.new) ≡ retire_one occupancy outstanding records.old r }
@@ -43,8 +30,8 @@ fn retire_one(records: &mut [u64], occupancy: Occupancy, outstanding: u64, r: us
         return outstanding;
     }
     let v = records::record_at(records, r);
-    records::set_word(records, r, STATE, STOPPED);
-    less(outstanding, v.count)
+    records::set_word(records, r, STATE_WORD, u64::from(State::Stopped));
+    outstanding.saturating_sub(v.count)
 }
 
 // Every record, one after the other.
@@ -53,37 +40,28 @@ fn retire_all(records: &mut [u64], occupancy: Occupancy, outstanding: u64) -> u6
     ensures { (result, records.new) ≡ retired_below record_count occupancy outstanding records.old }
 {
     let mut out = outstanding;
-    let mut r: usize = 0;
-    while r < RECORD_COUNT {
+    for r in 0..RECORD_COUNT {
         out = retire_one(records, occupancy, out, r);
-        r += 1;
     }
     out
 }
 
 // Every request in flight becomes stopped.
-pub fn retire_all_after_stop(e: Endpoint, records: &mut [u64]) -> Changed
+pub fn retire_all_after_stop(e: Endpoint, records: &mut [u64]) -> After<()>
     ensures { (result, records.new) ≡ retire e records.old }
 {
-    let no = checks::record_no(e, records);
-    if no != 0 {
-        return Changed {
-            answer: Outcome::Refused(no),
+    let checked = checks::record_no(e, records);
+    if let Err(refusal) = checked {
+        return After {
+            answer: Err(refusal),
             endpoint: e,
         };
     }
-    let a = e.account;
-    let occupancy = a.occupancy;
-    let outstanding = retire_all(records, occupancy, a.outstanding);
-    let account = Account {
-        next: a.next,
-        occupancy,
-        outstanding,
-    };
+    let outstanding = retire_all(records, e.account.occupancy, e.account.outstanding);
     let mut next = e;
-    next.account = account;
-    Changed {
-        answer: Outcome::Done,
+    next.account.outstanding = outstanding;
+    After {
+        answer: Ok(()),
         endpoint: next,
     }
 }

@@ -1,5 +1,5 @@
 -- A ring as a list of words, four a slot, and what each store leaves in it. Document 01, "The order of stores"; ring.rs.
-use Rattle.std.specs.Prelude.{ℕ, ◌+◌, ◌-◌, ◌*◌, ◌/◌, ◌%◌, Bool, true, not, ◌&&◌, List, leb, ltb, eqb}
+use Rattle.std.specs.Prelude.{ℕ, ◌+◌, ◌-◌, ◌*◌, ◌/◌, ◌%◌, Bool, true, not, ◌&&◌, List, leb, ltb, eqb, Option, Some, None}
 use Rattle.base.specs.First.{pick}
 use Rattle.trb.specs.Layouts.{words_of, put_words}
 use Rattle.trb.specs.declared.Trb.{Trb}
@@ -8,8 +8,6 @@ use Rattle.ring.specs.declared.Manner.{Manner}
 use Rattle.ring.specs.declared.Manner.TheVariants.{Onward, Around, Again}
 use Rattle.ring.specs.declared.Position.{Position}
 use Rattle.ring.specs.declared.Pointer.{Pointer}
-use Rattle.ring.specs.declared.Slot.{Slot}
-use Rattle.ring.specs.declared.Slot.TheVariants.{At, Outside}
 
 -- One store: the TRB's words with this cycle bit in the slot, and every other word as it was.
 unfoldable pub store_at : List ℕ → ℕ → Trb → Bool → List ℕ
@@ -73,5 +71,5 @@ unfoldable pub is_slot : ℕ → ℕ → ℕ → Bool
 is_slot base slots address = leb base address && eqb ((address - base) % 16) 0 && ltb ((address - base) / 16) slots
 
 -- The slot that an address names, if it is one of the ring's.
-unfoldable pub slot_of : ℕ → ℕ → ℕ → Slot
-slot_of base slots address = pick (is_slot base slots address) (At ((address - base) / 16)) Outside
+unfoldable pub slot_of : ℕ → ℕ → ℕ → Option ℕ
+slot_of base slots address = pick (is_slot base slots address) (Some ((address - base) / 16)) None

@@ -166,26 +166,19 @@ pub fn enqueue_pointer(base: u64, p: Position) -> Pointer
     }
 }
 
-// The slot that an address names, if it is one of the ring's.
-#[derive(Clone, Copy)]
-pub enum Slot {
-    At(usize),
-    Outside,
-}
-
-pub fn slot_of(base: u64, slots: usize, address: u64) -> Slot
+pub fn slot_of(base: u64, slots: usize, address: u64) -> Option<usize>
     ensures { result ≡ slot_of base slots address }
 {
     if address < base {
-        return Slot::Outside;
+        return None;
     }
     let offset = address - base;
     if offset % 16 != 0 {
-        return Slot::Outside;
+        return None;
     }
     let at = (offset / 16) as usize;
     if slots <= at {
-        return Slot::Outside;
+        return None;
     }
-    Slot::At(at)
+    Some(at)
 }

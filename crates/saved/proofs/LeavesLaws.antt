@@ -1,5 +1,6 @@
 -- An answer that does not move the endpoint's words leaves the endpoint: of each call that changes it, by its definition. So the words that such an
 -- answer leaves say the endpoint afterwards too. Assumes nothing.
+use Rattle.std.specs.Prelude.{Ok, ⊤, Result, Err}
 use Prim.Native.Nat.{ℕ}
 use mathlib.Core.Bool.{Bool, true, false, false≢true}
 use mathlib.Core.List.{List}
@@ -10,15 +11,16 @@ use Rattle.base.specs.First.{pick}
 use Rattle.base.proofs.Compare.{same_or_not}
 use Rattle.base.proofs.Decide.{both, by_eqb}
 use Rattle.records.specs.declared.Record.{Record}
-use Rattle.dock.specs.declared.Changed.{Changed}
-use Rattle.dock.specs.declared.Endpoint.{Endpoint}
-use Rattle.dock.specs.declared.Identity.{Identity}
+use Rattle.dock.specs.declared.After.{After}
+use Rattle.dock.specs.declared.Submitted.{Submitted}
+use Rattle.dock.specs.declared.Refusal.{Refusal}
 use Rattle.dock.specs.declared.Reclaimed.{Reclaimed}
 use Rattle.dock.specs.declared.Reclaimed.TheVariants as reclaimed
+use Rattle.dock.specs.declared.Stored.TheVariants.{Slot, Last}
+use Rattle.dock.specs.declared.Endpoint.{Endpoint}
+use Rattle.dock.specs.declared.Identity.{Identity}
 use Rattle.dock.specs.declared.Request.{Request}
 use Rattle.dock.specs.declared.Shape.{Shape}
-use Rattle.dock.specs.declared.Stored.TheVariants.{Slot, Last}
-use Rattle.dock.specs.declared.Submitted.{Submitted}
 use Rattle.dock.specs.Configure.{plain_no, configure}
 use Rattle.dock.specs.RowOne.{Next, next_of, is_none}
 use Rattle.sizes.specs.Sizes.{ring_size}
@@ -73,7 +75,7 @@ off_or_on true = inr refl
 off_or_on false = inl refl
 
 -- A store that is made tells 0.
-last_or_slot : (b : Bool) (slot id bell : ℕ) → (stored_number (pick b (Last slot id bell) (Slot slot))).0 ≡ 0
+last_or_slot : (b : Bool) (slot id bell : ℕ) → (stored_number (pick b (Ok (Last slot id bell)) (Ok (Slot slot)))).0 ≡ 0
 last_or_slot true slot id bell = refl
 last_or_slot false slot id bell = refl
 
@@ -86,14 +88,14 @@ module _ (e : Endpoint) where
       → (configure e packet burst interval).endpoint ≡ e
   configure_leaves packet burst interval =
       left (plain_no e) _
-      (λ z. ap (λ (c : Changed). (outcome_number c.answer).0) (configure_acts e packet burst interval z))
-      (λ n. ap (λ (c : Changed). c.endpoint) (configure_refuses e packet burst interval n))
+      (λ z. ap (λ (c : After ⊤). (outcome_number c.answer).0) (configure_acts e packet burst interval z))
+      (λ n. ap (λ (c : After ⊤). c.endpoint) (configure_refuses e packet burst interval n))
 
   pub end_leaves : (worked : Bool) → moves (outcome_number (end_reset e worked).answer).0 ≡ false → (end_reset e worked).endpoint ≡ e
   end_leaves worked =
       left (end_no e) _
-      (λ z. ap (λ (c : Changed). (outcome_number c.answer).0) (end_acts e worked z))
-      (λ n. ap (λ (c : Changed). c.endpoint) (end_refuses e worked n))
+      (λ z. ap (λ (c : After ⊤). (outcome_number c.answer).0) (end_acts e worked z))
+      (λ n. ap (λ (c : After ⊤). c.endpoint) (end_refuses e worked n))
 
   pub start_leaves : (records packets : List ℕ) (request : Request) (lengths : List ℕ)
       → moves (outcome_number (start e records packets request lengths).0.answer).0 ≡ false
@@ -135,7 +137,7 @@ module _ (e : Endpoint) where
       (λ z.
       let passed = submit_passed e ring finished records packets request lengths z in
       let fit = sizes.so passed.0 in
-      ap (λ (a : Submitted). (submitted_number a).0)
+      ap (λ (a : Result Submitted Refusal). (submitted_number a).0)
       (submit_done e ring finished records packets request lengths passed.1 fit.0 fit.1).0)
       (λ n. ap (λ x. x.0.endpoint) (submit_refuses e ring finished records packets request lengths n))
 
@@ -145,12 +147,12 @@ module _ (e : Endpoint) where
       → (reclaim e finished records packets id).0.endpoint ≡ e
   reclaim_leaves finished records packets id = by (reclaim e finished records packets id).0.answer refl
     where
-      by : (a : Reclaimed) → (reclaim e finished records packets id).0.answer ≡ a
+      by : (a : Result Reclaimed Refusal) → (reclaim e finished records packets id).0.answer ≡ a
           → moves (reclaimed_told (reclaim e finished records packets id).0.answer).0 ≡ false
           → (reclaim e finished records packets id).0.endpoint ≡ e
-      by (reclaimed.Done c) q m = absurd (moved 0 zero_moves (ap (λ a. (reclaimed_told a).0) q) m)
-      by reclaimed.Cancelled q m = absurd (moved 7 seven_moves (ap (λ a. (reclaimed_told a).0) q) m)
-      by (reclaimed.Failed code) q m = absurd (moved 8 eight_moves (ap (λ a. (reclaimed_told a).0) q) m)
-      by reclaimed.Mismatch q m = absurd (moved 9 nine_moves (ap (λ a. (reclaimed_told a).0) q) m)
-      by reclaimed.Nothing q m = reclaim_nothing e finished records packets id q
-      by (reclaimed.Refused n) q m = ap (λ x. x.0.endpoint) (reclaim_refused e finished records packets id n q)
+      by (Ok (reclaimed.Done c)) q m = absurd (moved 0 zero_moves (ap (λ a. (reclaimed_told a).0) q) m)
+      by (Ok reclaimed.Cancelled) q m = absurd (moved 7 seven_moves (ap (λ a. (reclaimed_told a).0) q) m)
+      by (Ok (reclaimed.Failed code)) q m = absurd (moved 8 eight_moves (ap (λ a. (reclaimed_told a).0) q) m)
+      by (Ok reclaimed.Mismatch) q m = absurd (moved 9 nine_moves (ap (λ a. (reclaimed_told a).0) q) m)
+      by (Ok reclaimed.Nothing) q m = reclaim_nothing e finished records packets id q
+      by (Err n) q m = ap (λ x. x.0.endpoint) (reclaim_refused e finished records packets id n q)

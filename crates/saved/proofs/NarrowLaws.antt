@@ -11,7 +11,7 @@ use lib.Dec.{eqb}
 use lib.ListN.{length}
 use Rattle.base.proofs.Chosen.{quiet}
 use Rattle.base.proofs.Compare.{same_or_not}
-use Rattle.sizes.specs.Sizes.{isoch}
+use Rattle.records.specs.Kinds.{kind_is, isoch}
 use Rattle.records.specs.declared.Record.{Record}
 use Rattle.dock.specs.declared.Endpoint.{Endpoint}
 use Rattle.dock.specs.declared.Identity.{Identity}
@@ -110,7 +110,7 @@ module _ (e : Endpoint) (n : Narrow e) where
   -- The next frame is one of 2,048, or as it was.
   frame_narrow : (v : Record) → frame_on e v < 2 ^ 16
   frame_narrow v =
-      picked (λ (f : ℕ). f < 2 ^ 16) (eqb v.kind isoch) (frame_after e.periodic.frame e.periodic.interval) e.periodic.frame
+      picked (λ (f : ℕ). f < 2 ^ 16) (kind_is v.kind isoch) (frame_after e.periodic.frame e.periodic.interval) e.periodic.frame
       (λ t. omega arith)
       (λ t. n.frame)
 

@@ -1,28 +1,31 @@
 // The end of a call: its answer is told, and the endpoint's words are saved where the answer changes the endpoint.
-ghost use Rattle.std.specs.Prelude.{◌≡◌, length};
-ghost use Rattle.loaded.specs.State.{state_words};
-ghost use Rattle.told.specs.Answer.{answer_words};
+ghost use Rattle.std.specs.Prelude.{◌≡◌};
+ghost use Rattle.dock.specs.Refusals.{number};
 ghost use Rattle.saved.specs.Settle.{numbered, told, unmade};
 
 use crate::state::keep;
-use dock::{Changed, Endpoint, Identity, Shape};
-use told::answer::{Told, outcome, tell};
+use dock::{After, Endpoint, Identity, Refusal, Shape};
+use loaded::STATE_WORDS;
+use told::answer::{ANSWER_WORDS, Told, outcome, tell};
 
 // Of a call that tells its number only.
-pub fn settle(state: &mut [u64], c: Changed) -> u32
-    requires { length state.old ≡ state_words }
+#[tactic(auto, unfolding(crate::specs::Settle::numbered))]
+pub fn settle(state: &mut [u64; STATE_WORDS], c: After<()>) -> u32
     ensures { (result, state.new) ≡ numbered state.old c }
 {
-    let a = c.answer;
-    let e = c.endpoint;
-    let number = outcome(a);
-    keep(state, number, e);
+    let number = outcome(c.answer);
+    keep(state, number, c.endpoint);
     number
 }
 
 // Of a call that has values to tell.
-pub fn settle_told(state: &mut [u64], answer: &mut [u64], t: Told, e: Endpoint) -> u32
-    requires { (length state.old ≡ state_words) × (length answer.old ≡ answer_words) }
+#[tactic(auto, unfolding(crate::specs::Settle::told, told::specs::Answer::spoken))]
+pub fn settle_told(
+    state: &mut [u64; STATE_WORDS],
+    answer: &mut [u64; ANSWER_WORDS],
+    t: Told,
+    e: Endpoint,
+) -> u32
     ensures { (result, state.new, answer.new) ≡ told state.old t e }
 {
     keep(state, t.number, e);
@@ -30,12 +33,13 @@ pub fn settle_told(state: &mut [u64], answer: &mut [u64], t: Told, e: Endpoint) 
 }
 
 // Of a making that is lent a wrong number of words for the endpoint: "Making knows only 13, then 1."
-pub fn unmade(shape: Shape, who: Identity) -> u32
-    ensures { result ≡ unmade shape who }
+#[tactic(auto, unfolding(crate::specs::Settle::unmade))]
+pub fn unmade(shape: Shape, who: Identity) -> Refusal
+    ensures { number result ≡ unmade shape who }
 {
     if limits::limits_hold(shape, who) {
-        1
+        Refusal::Unfit
     } else {
-        13
+        Refusal::OutsideLimits
     }
 }

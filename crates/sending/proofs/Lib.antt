@@ -1,4 +1,3 @@
 -- The laws of a whole submission.
-pub mod KindLaws
 pub mod SentLaws
 pub mod StrideLaws

@@ -1,4 +1,5 @@
 -- What `send` leaves is what an admitted submission's stores leave, one after the other. Assumes nothing.
+use Rattle.std.specs.Prelude.{Ok, Result, Err}
 use Prim.Native.Nat.{ℕ, zero, suc, ◌+◌, ◌-◌, ◌<◌}
 use mathlib.Core.Bool.{Bool, true, false, not}
 use mathlib.Core.List.{List, [], ◌∷◌}
@@ -12,7 +13,8 @@ use Rattle.base.proofs.Compare.{same_or_not}
 use Rattle.ring.specs.declared.Manner.TheVariants.{Onward}
 use Rattle.ring.specs.declared.Position.{Position}
 use Rattle.packets.specs.Packets.{packet_at}
-use Rattle.sizes.specs.Sizes.{ring_size, record_count, packets_size, isoch}
+use Rattle.sizes.specs.Sizes.{ring_size, record_count, packets_size}
+use Rattle.records.specs.Kinds.{isoch}
 use Rattle.records.specs.Records.{record_at}
 use Rattle.packets.specs.declared.Packet.{Packet}
 use Rattle.records.specs.declared.Record.{Record}
@@ -20,10 +22,11 @@ use Rattle.dock.specs.declared.Endpoint.{Endpoint}
 use Rattle.dock.specs.declared.Request.{Request}
 use Rattle.dock.specs.declared.What.{What}
 use Rattle.dock.specs.declared.What.TheVariants.{Control, Bulk, Interrupt, Isoch}
+use Rattle.dock.specs.declared.After.{After}
+use Rattle.dock.specs.declared.Submitted.{Submitted}
 use Rattle.dock.specs.declared.Stored.{Stored}
+use Rattle.dock.specs.declared.Refusal.{Refusal}
 use Rattle.dock.specs.declared.Stored.TheVariants as stored
-use Rattle.dock.specs.declared.StoredAll.{StoredAll}
-use Rattle.dock.specs.declared.Submitted.TheVariants as submitted
 use Rattle.dock.specs.Requests.{required, with_what, record_for}
 use Rattle.dock.specs.Start.{start_no, too_long, id_taken, record_taken, at_least_one, started_endpoint, started_records, write_packets}
 use Rattle.dock.specs.State.{with_store}
@@ -44,20 +47,20 @@ use Rattle.striding.specs.Stride.{put_trb, strides, closed}
 use Rattle.sending.proofs.StrideLaws.{Ends, strides_end}
 
 abbrev Whole : Type 0
-Whole = StoredAll × List ℕ × List ℕ
+Whole = After Submitted × List ℕ × List ℕ
 
 -- ---- a submission that is done is done in one way, however many stores it was given
 
 abbrev Done : Whole → Type 0
-Done w = (id : ℕ) × (bell : ℕ) × (w.0.answer ≡ submitted.Done id bell)
+Done w = (id : ℕ) × (bell : ℕ) × (w.0.answer ≡ Ok (record { id = id; bell = bell }))
 
 -- What follows a store, in two ways that agree where both are done.
-one_answer : (x : Stored) (e : Endpoint) (ring finished : List ℕ) (f g : Endpoint → List ℕ → List ℕ → Whole)
+one_answer : (x : Result Stored Refusal) (e : Endpoint) (ring finished : List ℕ) (f g : Endpoint → List ℕ → List ℕ → Whole)
     → (Done (f e ring finished) → Done (g e ring finished) → f e ring finished ≡ g e ring finished)
     → Done (after_store x e ring finished f) → Done (after_store x e ring finished g) → after_store x e ring finished f ≡ after_store x e ring finished g
-one_answer (stored.Slot slot) e ring finished f g same p q = same p q
-one_answer (stored.Last slot id bell) e ring finished f g same p q = refl
-one_answer (stored.Refused number) e ring finished f g same p q = refl
+one_answer (Ok (stored.Slot slot)) e ring finished f g same p q = same p q
+one_answer (Ok (stored.Last slot id bell)) e ring finished f g same p q = refl
+one_answer (Err number) e ring finished f g same p q = refl
 
 never : (e : Endpoint) (ring finished records packets : List ℕ) → Done (finish 0 e ring finished records packets) → ⊥
 unfolding finish
@@ -132,7 +135,7 @@ module _ (e : Endpoint) (records packets : List ℕ) (lengths ring finished : Li
   asked request = write_packets packets (record_taken e) request.what lengths
 
   abbrev pub Sent : Type 0
-  Sent = StoredAll × List ℕ × List ℕ × List ℕ
+  Sent = After Submitted × List ℕ × List ℕ × List ℕ
 
   -- Ring and finished table behind the stores, with the packets written.
   abbrev pub joined_by : Request → Whole → Sent

@@ -1,4 +1,5 @@
 -- A submission under way, TRB by TRB, ends as it does store by store: so many strides and the close are what `dock`'s stores come to. Assumes nothing.
+use Rattle.std.specs.Prelude.{Ok}
 use Prim.Native.Nat.{ℕ, zero, suc, ◌+◌}
 use mathlib.Core.Bool.{Bool, true, false, false≢true}
 use mathlib.Core.List.{List}
@@ -14,9 +15,9 @@ use Rattle.ring.specs.Ring.{store_at}
 use Rattle.ring.specs.declared.Position.{Position}
 use Rattle.records.specs.declared.Record.{Record}
 use Rattle.dock.specs.declared.Endpoint.{Endpoint}
-use Rattle.dock.specs.declared.StoredAll.{StoredAll}
-use Rattle.dock.specs.declared.StoredOne.{StoredOne}
-use Rattle.dock.specs.declared.Submitted.TheVariants as submitted
+use Rattle.dock.specs.declared.After.{After}
+use Rattle.dock.specs.declared.Submitted.{Submitted}
+use Rattle.dock.specs.declared.Stored.{Stored}
 use Rattle.dock.specs.RowOne.{Next, the_link, the_trb, the_first, none, next_of, is_none}
 use Rattle.dock.specs.State.{idle, with_store}
 use Rattle.dock.specs.NextStore.{store_no, store, stepped, ring_stored, finished_stored}
@@ -31,12 +32,12 @@ use Rattle.dock.proofs.StoreLaws.{flying_record, next_store, ring_length, finish
 use Rattle.striding.specs.Stride.{put_trb, next_put, strode, strides, closed}
 
 abbrev Whole : Type 0
-Whole = StoredAll × List ℕ × List ℕ
+Whole = After Submitted × List ℕ × List ℕ
 
 -- ---- a submission that ends, ends in one way
 
 IsDone : Whole → Type 0
-IsDone s = (id : ℕ) × (bell : ℕ) × (s.0.answer ≡ submitted.Done id bell)
+IsDone s = (id : ℕ) × (bell : ℕ) × (s.0.answer ≡ Ok (record { id = id; bell = bell }))
 
 module _ (records packets : List ℕ) where
   -- The stores that are left end so, within some number of them.
@@ -50,23 +51,23 @@ module _ (records packets : List ℕ) where
     passed : store_no e (length ring) (length finished) records (length packets) ≡ 0
     passed = store_admits e ring finished records packets s
 
-    abbrev left : StoredOne × List ℕ × List ℕ
+    abbrev left : After Stored × List ℕ × List ℕ
     left = store e ring finished records packets
 
     ring_is : (n : Next) → next_store e records ≡ n → left.1 ≡ ring_stored n e v packets ring
     ring_is n q =
-        ap (λ (x : StoredOne × List ℕ × List ℕ). x.1) (store_acts e ring finished records packets passed)
+        ap (λ (x : After Stored × List ℕ × List ℕ). x.1) (store_acts e ring finished records packets passed)
         ∙ ap (λ (m : Next). ring_stored m e v packets ring) q
 
     finished_is : (n : Next) → next_store e records ≡ n → left.2 ≡ finished_stored n e finished
     finished_is n q =
-        ap (λ (x : StoredOne × List ℕ × List ℕ). x.2) (store_acts e ring finished records packets passed)
+        ap (λ (x : After Stored × List ℕ × List ℕ). x.2) (store_acts e ring finished records packets passed)
         ∙ ap (λ (m : Next). finished_stored m e finished) q
 
     abbrev more : Next → Bool
     more n = is_none (next_of (stepped n e v packets) v)
 
-    abbrev followed : ℕ → StoredOne → List ℕ → List ℕ → Whole
+    abbrev followed : ℕ → After Stored → List ℕ → List ℕ → Whole
     followed fuel x ring' finished' =
         after_store x.answer x.endpoint ring' finished' (λ e ring finished. finish fuel e ring finished records packets)
 
@@ -81,7 +82,7 @@ module _ (records packets : List ℕ) where
         let told = store_goes_on e ring finished records packets passed (ap more q ∙ m) in (
           suc fuel,
           one_more fuel
-              ∙ ap (λ (x : StoredOne). followed fuel x left.1 left.2) told
+              ∙ ap (λ (x : After Stored). followed fuel x left.1 left.2) told
               ∙ ap (λ (m : Next). finish fuel (stepped m e v packets) left.1 left.2 records packets) q
               ∙ ap (λ (l : List ℕ). finish fuel (stepped n e v packets) l left.2 records packets) (ring_is n q)
               ∙ ap (λ (l : List ℕ). finish fuel (stepped n e v packets) (ring_stored n e v packets ring) l records packets) (finished_is n q)
@@ -92,7 +93,7 @@ module _ (records packets : List ℕ) where
     abbrev pub lastly : Next → List ℕ → List ℕ → Whole
     lastly n ring' finished' = (
       record {
-        answer = submitted.Done v.id e.who.dci;
+        answer = Ok (record { id = v.id; bell = e.who.dci });
         endpoint = with_store (stepped n e v packets) (stepped n e v packets).at (stepped n e v packets).periodic.frame idle;
       },
       ring',
@@ -104,7 +105,7 @@ module _ (records packets : List ℕ) where
         let told = store_ends e ring finished records packets passed (ap more q ∙ m) in (
           1,
           one_more 0
-              ∙ ap (λ (x : StoredOne). followed 0 x left.1 left.2) told
+              ∙ ap (λ (x : After Stored). followed 0 x left.1 left.2) told
               ∙ ap (λ (m : Next). lastly m left.1 left.2) q
               ∙ ap (λ (l : List ℕ). lastly n l left.2) (ring_is n q)
               ∙ ap (λ (l : List ℕ). lastly n (ring_stored n e v packets ring) l) (finished_is n q),
@@ -115,7 +116,7 @@ module _ (records packets : List ℕ) where
   -- The end of a submission, where x is the endpoint behind its last store.
   abbrev end_with : Record → ℕ → Endpoint → List ℕ → List ℕ → Whole
   end_with v bell x ring finished =
-      (record { answer = submitted.Done v.id bell; endpoint = with_store x x.at x.periodic.frame idle }, ring, finished)
+      (record { answer = Ok (record { id = v.id; bell = bell }); endpoint = with_store x x.at x.periodic.frame idle }, ring, finished)
 
   -- The stores of e lead to x: where nothing is left there, they end so; else x's stores may follow, and end them.
   Leads : Record → ℕ → Endpoint → List ℕ → List ℕ → Endpoint → List ℕ → List ℕ → Type 0

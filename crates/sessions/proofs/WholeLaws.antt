@@ -1,5 +1,6 @@
 -- The line of a request that is admitted makes all of its stores: it leaves the endpoint, the ring and every table as the whole submission does in one
 -- call, and nothing is under way afterwards (`line_is_whole`, `line_settles`). Assumes nothing.
+use Rattle.std.specs.Prelude.{Result, Ok, Err, ⊤}
 use Prim.Native.Nat.{ℕ, zero, suc, ◌≤◌}
 use mathlib.Core.Bool.{Bool, true, false, ◌||◌, false≢true}
 use mathlib.Core.List.{List}
@@ -9,16 +10,15 @@ use borrow.Author.Tests.{ltb-false}
 use lib.Dec.{eqb, ltb}
 use lib.ListN.{length}
 use Rattle.base.specs.First.{pick}
-use Rattle.dock.specs.declared.Changed.{Changed}
+use Rattle.dock.specs.declared.After.{After}
+use Rattle.dock.specs.declared.Submitted.{Submitted}
+use Rattle.dock.specs.declared.Stored.{Stored}
+use Rattle.dock.specs.declared.Refusal.{Refusal}
+use Rattle.dock.specs.declared.Stored.TheVariants as stored
 use Rattle.dock.specs.declared.Endpoint.{Endpoint}
 use Rattle.dock.specs.declared.Request.{Request}
 use Rattle.dock.specs.declared.What.{What}
 use Rattle.dock.specs.declared.What.TheVariants.{Control, Bulk, Interrupt, Isoch}
-use Rattle.dock.specs.declared.Stored.{Stored}
-use Rattle.dock.specs.declared.Stored.TheVariants as stored
-use Rattle.dock.specs.declared.StoredAll.{StoredAll}
-use Rattle.dock.specs.declared.StoredOne.{StoredOne}
-use Rattle.dock.specs.declared.Submitted.TheVariants as submitted
 use Rattle.sizes.specs.Sizes.{ring_size, packet_count}
 use Rattle.dock.specs.Requests.{count_for}
 use Rattle.dock.specs.Start.{some_over, sum_of, too_long, start_no, started_endpoint, started_records, write_packets, record_taken, id_taken}
@@ -34,31 +34,31 @@ use Rattle.values.specs.declared.Turn.{Turn}
 use Rattle.calls.specs.Calls.{stored_by, stored_one, stores_by, stores, asked_by, asked}
 
 -- The same endpoint, ring and finished table.
-pub record Same (x : StoredAll × List ℕ × List ℕ) (y : Turn × List ℕ × List ℕ × List ℕ) : Type 0 where
+pub record Same (x : After Submitted × List ℕ × List ℕ) (y : Turn × List ℕ × List ℕ × Page) : Type 0 where
   pub endpoint : y.0.e ≡ x.0.endpoint
   pub ring : y.1 ≡ x.1
   pub finished : y.2 ≡ x.2
 
 -- What follows a store, in the whole submission and in the line's.
-abbrev left : ℕ → List ℕ → List ℕ → Stored → StoredOne × List ℕ × List ℕ → StoredAll × List ℕ × List ℕ
+abbrev left : ℕ → List ℕ → List ℕ → Result Stored Refusal → After Stored × List ℕ × List ℕ → After Submitted × List ℕ × List ℕ
 left n records packets a s = after_store a s.0.endpoint s.1 s.2 (λ e ring finished. finish n e ring finished records packets)
 
-abbrev line : ℕ → List ℕ → List ℕ → Stored → StoredOne × List ℕ × List ℕ → Page → Turn × List ℕ × List ℕ × List ℕ
+abbrev line : ℕ → List ℕ → List ℕ → Result Stored Refusal → After Stored × List ℕ × List ℕ → Page → Turn × List ℕ × List ℕ × Page
 line m records packets a s p =
     stores_by (stored_by p (record { answer = a; endpoint = s.0.endpoint }, s.1, s.2)) (λ e ring finished p. stores m e ring finished records packets p)
 
 module _ (records packets : List ℕ) (id bell : ℕ) where
-  one : (n m : ℕ) (s : StoredOne × List ℕ × List ℕ) (p : Page) (a : Stored)
-      → (left n records packets a s).0.answer ≡ submitted.Done id bell
-      → ((p : Page) → (finish n s.0.endpoint s.1 s.2 records packets).0.answer ≡ submitted.Done id bell
+  one : (n m : ℕ) (s : After Stored × List ℕ × List ℕ) (p : Page) (a : Result Stored Refusal)
+      → (left n records packets a s).0.answer ≡ Ok (record { id = id; bell = bell })
+      → ((p : Page) → (finish n s.0.endpoint s.1 s.2 records packets).0.answer ≡ Ok (record { id = id; bell = bell })
       → Same (finish n s.0.endpoint s.1 s.2 records packets) (stores m s.0.endpoint s.1 s.2 records packets p))
       → Same (left n records packets a s) (line m records packets a s p)
-  one n m s p (stored.Slot slot) e more = more (put_all p (stored_lines s.1 (stored.Slot slot))) e
-  one n m s p (stored.Last slot i b) e more = record { endpoint = refl; ring = refl; finished = refl }
-  one n m s p (stored.Refused number) e more = let z : ◌≡◌ {A = ℕ} 0 1 = cc in absurd (omega arith)
+  one n m s p (Ok (stored.Slot slot)) e more = more (put_all p (stored_lines s.1 (Ok (stored.Slot slot)))) e
+  one n m s p (Ok (stored.Last slot i b)) e more = record { endpoint = refl; ring = refl; finished = refl }
+  one n m s p (Err number) e more = let z : ◌≡◌ {A = ℕ} 0 1 = cc in absurd (omega arith)
 
   -- Stores that end are the line's too, with as many turns or more.
-  follows : (n m : ℕ) → n ≤ m → (e : Endpoint) (ring finished : List ℕ) (p : Page) → (finish n e ring finished records packets).0.answer ≡ submitted.Done id bell
+  follows : (n m : ℕ) → n ≤ m → (e : Endpoint) (ring finished : List ℕ) (p : Page) → (finish n e ring finished records packets).0.answer ≡ Ok (record { id = id; bell = bell })
       → Same (finish n e ring finished records packets) (stores m e ring finished records packets p)
   unfolding finish stores stored_one
   follows zero m few e ring finished p d = let z : ◌≡◌ {A = ℕ} 0 1 = cc in absurd (omega arith)
@@ -100,7 +100,7 @@ module _ (e : Endpoint) (ring finished records packets : List ℕ) (request : Re
   abbrev given : List ℕ
   given = write_packets packets (record_taken e) request.what lengths
 
-  abbrev whole : StoredAll × List ℕ × List ℕ
+  abbrev whole : After Submitted × List ℕ × List ℕ
   whole = finish (most_stores request (length lengths)) begun ring finished written given
 
   -- The line's stores leave what those of the whole submission leave,
@@ -115,7 +115,7 @@ module _ (e : Endpoint) (ring finished records packets : List ℕ) (request : Re
   unfolding asked
   line_settles =
       let ended = start_finishes e ring finished records packets request lengths passed ring_size_lem finished_size in
-      ap (λ (s : Changed × List ℕ × List ℕ). (asked_by s.0.answer s.0.endpoint ring finished s.1 s.2 p).0.e.work)
+      ap (λ (s : After ⊤ × List ℕ × List ℕ). (asked_by s.0.answer s.0.endpoint ring finished s.1 s.2 p).0.e.work)
       (start_acts e records packets request lengths passed)
       ∙ ap (λ (x : Endpoint). x.work) line_is_whole.endpoint
       ∙ ended.work

@@ -67,15 +67,15 @@ longest_control = 65535
 abbrev pub frames : ℕ
 frames = 2048
 
--- The kinds of a request, as its record has them.
-abbrev pub control : ℕ
-control = 0
+-- The numbers of the kinds of a request, as its record has them.
+abbrev pub control_number : ℕ
+control_number = 0
 
-abbrev pub bulk : ℕ
-bulk = 1
+abbrev pub bulk_number : ℕ
+bulk_number = 1
 
-abbrev pub interrupt : ℕ
-interrupt = 2
+abbrev pub interrupt_number : ℕ
+interrupt_number = 2
 
-abbrev pub isoch : ℕ
-isoch = 3
+abbrev pub isoch_number : ℕ
+isoch_number = 3

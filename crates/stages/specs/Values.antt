@@ -1,9 +1,10 @@
 -- What a stage of a control request leaves to do, as the dock's definition has it.
+use Rattle.std.specs.Prelude.{Option, Some, None}
 use Rattle.dock.specs.Reclaim.{Seen, onward, ends}
-use Rattle.stages.specs.declared.control.Stage.{Stage}
-use Rattle.stages.specs.declared.control.Stage.TheVariants.{Onward, Ends}
+use Rattle.dock.specs.declared.After.{After}
+use Rattle.dock.specs.declared.Reclaimed.{Reclaimed}
 
 -- The later stages, or nothing more.
-abbrev pub seen_of : Stage → Seen
-seen_of Onward = onward
-seen_of (Ends r) = ends r
+abbrev pub seen_of : Option (After Reclaimed) → Seen
+seen_of None = onward
+seen_of (Some r) = ends r

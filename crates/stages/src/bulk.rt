@@ -1,34 +1,31 @@
 // The reclaim of a bulk or an interrupt request: one event, at the request's place.
-ghost use Rattle.std.specs.Prelude.{◌≡◌, length, ◌<◌};
+ghost use Rattle.std.specs.Prelude.{◌≡◌};
 ghost use Rattle.dock.specs.Reclaim.{bulk_by, reclaim_bulk};
-ghost use Rattle.sizes.specs.Sizes.{record_count};
-ghost use Rattle.checks.specs.Shown.{Shown};
 
-use completing::{completed, less, unfinished};
-use dock::{Endpoint, ReclaimedOne};
-use finished::Finished;
-use records::Record;
+use completing::{Claim, Flight, unfinished};
+use dock::{After, Reclaimed};
+use trb::Words;
 use worth::is_accepted;
 
-fn by_event(f: Finished, e: Endpoint, v: Record, number: usize) -> ReclaimedOne
-    requires { number < record_count }
-    ensures { result ≡ bulk_by f e v number }
+fn by_event(f: Option<Words>, claim: Claim) -> After<Reclaimed>
+    ensures { result ≡ bulk_by f claim.endpoint claim.record claim.number }
 {
     match f {
-        Finished::Nothing => unfinished(e),
-        Finished::Event(w) => {
+        None => unfinished(claim.endpoint),
+        Some(w) => {
             let event = event::event_of(w);
-            let size = less(v.length, event.remaining as u64);
-            completed(e, v, number, event.code, !is_accepted(event.code), size)
+            let v = claim.record;
+            let size = v.length.saturating_sub(event.remaining as u64);
+            claim.completed(event.code, !is_accepted(event.code), size)
         }
     }
 }
 
-pub fn reclaim_bulk(e: Endpoint, finished: &[u32], v: Record, number: usize) -> ReclaimedOne
-    requires { Shown e.shape.slots (length finished.now) v.place number }
-    ensures { result ≡ reclaim_bulk e finished.now v number }
+#[tactic(auto, unfolding(dock::specs::Reclaim::reclaim_bulk))]
+pub fn reclaim_bulk(flight: Flight) -> After<Reclaimed>
+    ensures { result ≡ reclaim_bulk flight.entry.claim.endpoint flight.entry.finished.now flight.entry.claim.record flight.entry.claim.number }
 {
-    let place = v.place as usize;
-    let f = finished::get_finished(finished, place);
-    by_event(f, e, v, number)
+    let claim = flight.claim;
+    let f = finished::get_finished(flight.finished, claim.record.place as usize);
+    by_event(f, claim)
 }

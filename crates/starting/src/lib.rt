@@ -13,30 +13,15 @@ ghost use Rattle.starting.specs.Taken.{started_by, taken_with, begun_with};
 ghost use Rattle.admission.specs.Admitted.{Admitted};
 
 use dock::{Account, Endpoint, Request, What, Work};
-use mask::{Found, Occupancy};
+use mask::Occupancy;
 use records::Record;
 
 // "the lowest clear bit is taken."
+#[tactic(auto, using(admission::proofs::StartLaws::found_within))]
 fn record_taken(occupancy: Occupancy) -> usize
     ensures { (result ≡ number_from (lowest occupancy)) × (result < record_count) }
 {
-    let found = mask::lowest(occupancy);
-    match found {
-        Found::At(i) => i,
-        Found::Full => 0,
-    }
-}
-
-// The lengths, one behind the other, from a word on.
-fn copy_lengths(packets: &mut [u64], start: usize, lengths: &[u64])
-    requires { start + length lengths.now ≤ length packets.old }
-    ensures { packets.new ≡ paste packets.old start lengths.now (length lengths.now) }
-{
-    let mut i: usize = 0;
-    while i < lengths.len() {
-        packets[start + i] = lengths[i];
-        i += 1;
-    }
+    occupancy.lowest().unwrap_or(0)
 }
 
 // "No packets means one packet of length 0."
@@ -45,53 +30,47 @@ fn write_lengths(packets: &mut [u64], number: usize, lengths: &[u64])
     ensures { packets.new ≡ paste packets.old (packet_count * number) (at_least_one lengths.now) (length (at_least_one lengths.now)) }
 {
     let start = sizes::PACKET_COUNT * number;
-    if lengths.len() == 0 {
+    if lengths.is_empty() {
         packets[start] = 0;
-        return;
+    } else {
+        packets[start..start + lengths.len()].copy_from_slice(lengths);
     }
-    copy_lengths(packets, start, lengths);
 }
 
 // "writes the record's packets anew, unmarked." Only an ISO request has packets.
+#[tactic(auto, unfolding(dock::specs::Start::write_packets))]
 fn write_packets(packets: &mut [u64], number: usize, what: What, lengths: &[u64])
     requires { (packet_count * number + packet_count ≤ length packets.old) × (given_of what (length lengths.now) ≤ packet_count) }
     ensures { packets.new ≡ write_packets packets.old number what lengths.now }
 {
     match what {
-        What::Control {
-            request_type: _,
-            request: _,
-            value: _,
-            index: _,
-        } => {}
-        What::Bulk { incoming: _ } => {}
-        What::Interrupt { incoming: _ } => {}
-        What::Isoch { incoming: _ } => write_lengths(packets, number, lengths),
+        What::Control { .. } | What::Bulk { .. } | What::Interrupt { .. } => {}
+        What::Isoch { .. } => write_lengths(packets, number, lengths),
     }
 }
 
 // The endpoint with the id, the record and the count taken, and the submission under way.
+#[tactic(auto, unfolding(crate::specs::Taken::started_by))]
 fn started(e: Endpoint, next: u64, number: usize, request: Request, count: usize) -> Endpoint
     requires { (number < record_count) × (e.account.outstanding + required request count < 2 ^ 64) }
     ensures { result ≡ started_by e next number request count }
 {
-    let account = Account {
-        next,
-        occupancy: mask::taken(e.account.occupancy, number),
-        outstanding: e.account.outstanding + requests::required_of(request, count),
-    };
-    let work = Work {
-        busy: true,
-        number,
-        stored: 0,
-        address: requests::buffer_of(request),
-        place: e.at.place,
-        cycle: e.at.cycle,
-    };
-    let mut next = e;
-    next.account = account;
-    next.work = work;
-    next
+    Endpoint {
+        account: Account {
+            next,
+            occupancy: e.account.occupancy.taken(number),
+            outstanding: e.account.outstanding + requests::required_of(request, count),
+        },
+        work: Work {
+            busy: true,
+            number,
+            stored: 0,
+            address: requests::buffer_of(request),
+            place: e.at.place,
+            cycle: e.at.cycle,
+        },
+        ..e
+    }
 }
 
 // What an admitted submission takes: the endpoint with it under way, and the record that is kept of it.
@@ -102,6 +81,7 @@ pub struct Begun {
 }
 
 // The id, the record and the count.
+#[tactic(auto, unfolding(crate::specs::Taken::taken_with))]
 pub fn take(e: Endpoint, records: &mut [u64], request: Request, count: usize) -> Begun
     requires { (length records.old ≡ records_size) × (0 < e.account.next) × (e.account.outstanding + required request count ≤ capacity most_slots) }
     ensures { (result, records.new) ≡ taken_with e records.old request count }
@@ -129,7 +109,6 @@ pub fn begin(
 {
     let begun = take(e, records, request, lengths.len());
     let number = record_taken(e.account.occupancy);
-    let what = request.what;
-    write_packets(packets, number, what, lengths);
+    write_packets(packets, number, request.what, lengths);
     begun.endpoint
 }

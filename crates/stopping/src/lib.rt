@@ -8,7 +8,8 @@ ghost use Rattle.std.specs.Prelude.{◌≡◌, ◌+◌, ◌-◌, ◌*◌, ◌^�
 ghost use Rattle.sizes.specs.Sizes.{trb_bytes};
 ghost use Rattle.dock.specs.Commands.{reset_words, dequeue_words, stop, resume, pointer};
 
-use dock::{Command, Endpoint, Pointed};
+use dock::{Endpoint, Refusal};
+use ring::Pointer;
 use trb::{Trb, Words};
 
 // Reset Endpoint, of this endpoint.
@@ -37,39 +38,30 @@ pub fn dequeue_words(e: Endpoint) -> Words
 }
 
 // The words of the command that stops the endpoint.
-pub fn stop_words(e: Endpoint) -> Command
+pub fn stop_words(e: Endpoint) -> Result<Words, Refusal>
     ensures { result ≡ stop e }
 {
-    let no = checks::plain_no(e);
-    if no != 0 {
-        return Command::Refused(no);
-    }
+    checks::plain_no(e)?;
     let command = Trb::StopEndpoint {
         endpoint: e.who.dci,
         slot: e.who.slot,
     };
-    Command::Words(encoding::words_of(command, false))
+    Ok(encoding::words_of(command, false))
 }
 
 // The words of the command that sets it going again, at the producer's place.
-pub fn resume_words(e: Endpoint) -> Command
+pub fn resume_words(e: Endpoint) -> Result<Words, Refusal>
     ensures { result ≡ resume e }
 {
-    let no = checks::plain_no(e);
-    if no != 0 {
-        return Command::Refused(no);
-    }
-    Command::Words(dequeue_words(e))
+    checks::plain_no(e)?;
+    Ok(dequeue_words(e))
 }
 
 // Where the producer stands.
-pub fn enqueue_pointer(e: Endpoint) -> Pointed
+pub fn enqueue_pointer(e: Endpoint) -> Result<Pointer, Refusal>
     ensures { result ≡ pointer e }
 {
-    let no = checks::plain_no(e);
-    if no != 0 {
-        return Pointed::Refused(no);
-    }
+    checks::plain_no(e)?;
     let at = e.at;
-    Pointed::At(ring::enqueue_pointer(e.shape.base, at))
+    Ok(ring::enqueue_pointer(e.shape.base, at))
 }

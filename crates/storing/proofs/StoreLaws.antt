@@ -15,7 +15,8 @@ use Rattle.sizes.specs.Sizes.{ring_size, packets_size}
 use Rattle.dock.specs.NextStore.{store_tests, store_no, stepped, slot_stored, ring_stored, finished_stored, stored_answer}
 use Rattle.dock.specs.Trbs.{trb_of, packet_size, deferred}
 use Rattle.dock.specs.declared.Endpoint.{Endpoint}
-use Rattle.dock.specs.declared.StoredOne.{StoredOne}
+use Rattle.dock.specs.declared.After.{After}
+use Rattle.dock.specs.declared.Stored.{Stored}
 use Rattle.checks.proofs.Laws.{fit, fit_with, count_most}
 use Rattle.dock.proofs.RefusalTestLaws.{on_course}
 use Rattle.storing.specs.Ready.{Ready, first_read}
@@ -67,7 +68,7 @@ first_low e records v is late low = subst (λ (b : Bool). pick b e.work.place 0 
 -- ---- what each store leaves
 
 module _ (e : Endpoint) (v : Record) (ring finished packets : List ℕ) where
-  pub link_stored : ◌≡◌ {A = StoredOne × List ℕ × List ℕ} ((link_by e v ring).0, (link_by e v ring).1, finished) (stored_with the_link e v ring finished packets)
+  pub link_stored : ◌≡◌ {A = After Stored × List ℕ × List ℕ} ((link_by e v ring).0, (link_by e v ring).1, finished) (stored_with the_link e v ring finished packets)
   unfolding stored_with link_by concluded_by stepped slot_stored ring_stored finished_stored stored_answer
   link_stored = refl
 
@@ -76,10 +77,10 @@ module _ (e : Endpoint) (v : Record) (ring finished packets : List ℕ) where
   trb_stored_lem = refl
 
   pub first_stored : deferred v ≡ true
-      → ◌≡◌ {A = StoredOne × List ℕ × List ℕ} ((first_by e v ring).0, (first_by e v ring).1, finished) (stored_with the_first e v ring finished packets)
+      → ◌≡◌ {A = After Stored × List ℕ × List ℕ} ((first_by e v ring).0, (first_by e v ring).1, finished) (stored_with the_first e v ring finished packets)
   unfolding stored_with first_by concluded_by stepped slot_stored ring_stored finished_stored stored_answer
   first_stored late = rw (first_of_lem e v packets late) refl
 
-  pub none_stored : ◌≡◌ {A = StoredOne × List ℕ × List ℕ} (concluded_by e v 0, ring, finished) (stored_with none e v ring finished packets)
+  pub none_stored : ◌≡◌ {A = After Stored × List ℕ × List ℕ} (concluded_by e v 0, ring, finished) (stored_with none e v ring finished packets)
   unfolding stored_with concluded_by stepped slot_stored ring_stored finished_stored stored_answer
   none_stored = refl

@@ -1,6 +1,6 @@
 -- A submission TRB by TRB: a TRB's store and, where the place reaches L-1, the link's behind it. `dock` has it store by store; that both come to the
 -- same is `strides_end` in proofs/.
-use Rattle.std.specs.Prelude.{ℕ, zero, suc, ◌+◌, Bool, List, eqb}
+use Rattle.std.specs.Prelude.{ℕ, zero, suc, ◌+◌, ◌*◌, ◌≤◌, ◌<◌, Bool, List, eqb, Ok}
 use Rattle.base.specs.First.{pick}
 use Rattle.trb.specs.declared.Trb.{Trb}
 use Rattle.ring.specs.Ring.{position_by, ring_by, link_trb}
@@ -11,8 +11,8 @@ use Rattle.finished.specs.Finished.{clear_place}
 use Rattle.records.specs.declared.Record.{Record}
 use Rattle.dock.specs.declared.Endpoint.{Endpoint}
 use Rattle.dock.specs.declared.Shape.{Shape}
-use Rattle.dock.specs.declared.StoredAll.{StoredAll}
-use Rattle.dock.specs.declared.Submitted.TheVariants.{Done}
+use Rattle.dock.specs.declared.After.{After}
+use Rattle.dock.specs.declared.Submitted.{Submitted}
 use Rattle.dock.specs.State.{idle, with_store}
 use Rattle.dock.specs.NextStore.{with_stored, run_on, frame_on, manner_of, first_at}
 use Rattle.dock.specs.Trbs.{trb_of, deferred, first_trb, chained}
@@ -27,6 +27,10 @@ linked_ring shape chain p ring = pick (eqb (p.place + 1) shape.slots) (ring_by A
 
 unfoldable pub link_on : Shape → Bool → Position → List ℕ → Position × List ℕ
 link_on shape chain p ring = (linked shape.slots p, linked_ring shape chain p ring)
+
+-- What such stores ask: the ring and the finished table have four words a slot at least, and the place is one of the slots 0 to L-2.
+abbrev pub Placed : Shape → Position → ℕ → ℕ → Type 0
+Placed shape p ring finished = (4 * shape.slots ≤ ring) × (4 * shape.slots ≤ finished) × (p.place + 1 < shape.slots)
 
 -- A TRB at the place, by a manner of ring's, its place in the finished table cleared, and the link where it is due.
 unfoldable pub put_trb : Shape → Bool → Position → Trb → Manner → List ℕ → List ℕ → Position × List ℕ × List ℕ
@@ -48,9 +52,9 @@ strides (suc n) e v packets ring finished =
     let s = next_put e v packets ring finished in strides n (strode e v packets s.0) v packets s.1 s.2
 
 -- The end of a submission whose TRBs are stored: for a deferred TD the first TRB again, with the right cycle; then nothing is under way.
-unfoldable pub closed : Record → List ℕ → Endpoint × List ℕ × List ℕ → StoredAll × List ℕ × List ℕ
+unfoldable pub closed : Record → List ℕ → Endpoint × List ℕ × List ℕ → After Submitted × List ℕ × List ℕ
 closed v packets s = (
-  record { answer = Done v.id s.0.who.dci; endpoint = with_store s.0 s.0.at s.0.periodic.frame idle },
+  record { answer = Ok (record { id = v.id; bell = s.0.who.dci }); endpoint = with_store s.0 s.0.at s.0.periodic.frame idle },
   pick (deferred v) (ring_by Again s.1 (first_at s.0.work) (first_trb s.0 v packets)) s.1,
   s.2,
 )

@@ -9,7 +9,8 @@ use marking::{Block, Marked, Standing};
 use packets::Packet;
 use sizes::PACKET_COUNT;
 
-// The loop: each packet is taken, turned and put back, until the walk stands at its end.
+// The loop: each packet is taken, turned and put back, until the walk stands at its end. It stays a `while`: the walk goes where each turn sends it, and
+// back to the first packet when the last one is found, so that it counts no index.
 pub fn mark_packets(packets: &mut [Packet], finished: &[u32], b: Block) -> Standing
     ensures { (packets.new ≡ (walked packets.old finished.now b).packets) × (result ≡ (walked packets.old finished.now b).standing) }
 {

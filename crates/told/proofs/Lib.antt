@@ -1,2 +1,3 @@
 -- The laws of `told`.
+pub mod AnswerLaws
 pub mod RequestLaws

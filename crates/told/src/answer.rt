@@ -1,180 +1,152 @@
 // An answer as a number and words.
-ghost use Rattle.std.specs.Prelude.{◌≡◌, length};
-ghost use Rattle.base.specs.Fields.{flag};
+ghost use Rattle.std.specs.Prelude.{◌≡◌, ◌<◌, [], length};
+ghost use Rattle.dock.specs.Refusals.{number};
 ghost use Rattle.dock.specs.Numbers.{outcome_number, stored_number, submitted_number, taken_number, resetting_number, command_number, pointed_number};
-ghost use Rattle.told.specs.Answer.{answer_words, told_of, told_few, told_two, spoken, reclaimed_told};
+ghost use Rattle.told.specs.Answer.{answer_words, told_of, spoken, reclaimed_told};
 
-use dock::{Command, Outcome, Pointed, Reclaimed, Resetting, Stored, Submitted, Taken};
+use dock::{Reclaimed, Refusal, ResetCommands, Stored, Submitted};
+use ring::Pointer;
 use trb::Words;
 
 // The words of an answer: how many values it has, and eight for them.
 pub const ANSWER_WORDS: usize = 9;
 
-// An answer: its number, how many values go with it, and the values, 0 behind the last.
+// An answer: its number, and its words: how many values go with it, the values, and 0 behind the last.
 #[derive(Clone, Copy)]
 pub struct Told {
     pub number: u32,
-    pub count: u64,
-    pub v0: u64,
-    pub v1: u64,
-    pub v2: u64,
-    pub v3: u64,
-    pub v4: u64,
-    pub v5: u64,
-    pub v6: u64,
-    pub v7: u64,
+    pub words: [u64; ANSWER_WORDS],
 }
 
-fn few(number: u32, count: u64, v0: u64, v1: u64, v2: u64, v3: u64, v4: u64) -> Told
-    ensures { result ≡ told_few number count v0 v1 v2 v3 v4 }
+// An answer of a number and values.
+#[tactic(auto, using(crate::proofs::AnswerLaws::laid_out))]
+fn numbered(number: u32, values: &[u64]) -> Told
+    requires { length values.now < answer_words }
+    ensures { result ≡ told_of (number, values.now) }
 {
-    Told {
-        number,
-        count,
-        v0,
-        v1,
-        v2,
-        v3,
-        v4,
-        v5: 0,
-        v6: 0,
-        v7: 0,
-    }
+    let mut words = [0; ANSWER_WORDS];
+    words[0] = values.len() as u64;
+    words[1..=values.len()].copy_from_slice(values);
+    Told { number, words }
 }
 
-// The words of two commands; with a count of 4 those of one.
-fn commands(count: u64, first: Words, second: Words) -> Told
-    ensures { result ≡ told_two count first second }
+// A refusal has its number, and no values.
+fn refused(refusal: Refusal) -> Told
+    ensures { result ≡ told_of (number refusal, []) }
 {
-    Told {
-        number: 0,
-        count,
-        v0: first.w0 as u64,
-        v1: first.w1 as u64,
-        v2: first.w2 as u64,
-        v3: first.w3 as u64,
-        v4: second.w0 as u64,
-        v5: second.w1 as u64,
-        v6: second.w2 as u64,
-        v7: second.w3 as u64,
-    }
-}
-
-pub fn bit(b: bool) -> u64
-    ensures { result ≡ flag b }
-{
-    if b { 1 } else { 0 }
+    numbered(refusal.number(), &[])
 }
 
 // The number of an answer that has no values.
-pub fn outcome(a: Outcome) -> u32
+pub fn outcome(a: Result<(), Refusal>) -> u32
     ensures { result ≡ (outcome_number a).0 }
 {
     match a {
-        Outcome::Done => 0,
-        Outcome::Refused(number) => number,
+        Ok(()) => 0,
+        Err(refusal) => refusal.number(),
     }
 }
 
-pub fn stored(a: Stored) -> Told
+pub fn stored(a: Result<Stored, Refusal>) -> Told
     ensures { result ≡ told_of (stored_number a) }
 {
     match a {
-        Stored::Slot(slot) => few(0, 1, slot as u64, 0, 0, 0, 0),
-        Stored::Last { slot, id, bell } => few(0, 3, slot as u64, id, bell as u64, 0, 0),
-        Stored::Refused(number) => few(number, 0, 0, 0, 0, 0, 0),
+        Ok(Stored::Slot(slot)) => numbered(0, &[slot as u64]),
+        Ok(Stored::Last { slot, id, bell }) => numbered(0, &[slot as u64, id, u64::from(bell)]),
+        Err(refusal) => refused(refusal),
     }
 }
 
-pub fn submitted(a: Submitted) -> Told
+pub fn submitted(a: Result<Submitted, Refusal>) -> Told
     ensures { result ≡ told_of (submitted_number a) }
 {
     match a {
-        Submitted::Done { id, bell } => few(0, 2, id, bell as u64, 0, 0, 0),
-        Submitted::Refused(number) => few(number, 0, 0, 0, 0, 0, 0),
+        Ok(Submitted { id, bell }) => numbered(0, &[id, u64::from(bell)]),
+        Err(refusal) => refused(refusal),
     }
 }
 
-pub fn taken(a: Taken) -> Told
+pub fn taken(a: Result<usize, Refusal>) -> Told
     ensures { result ≡ told_of (taken_number a) }
 {
     match a {
-        Taken::Place(slot) => few(0, 1, slot as u64, 0, 0, 0, 0),
-        Taken::Refused(number) => few(number, 0, 0, 0, 0, 0, 0),
+        Ok(slot) => numbered(0, &[slot as u64]),
+        Err(refusal) => refused(refusal),
     }
 }
 
 // A completion has two values more than the paper's: its record, and how many packets it has there.
-pub fn reclaimed(a: Reclaimed) -> Told
+pub fn reclaimed(a: Result<Reclaimed, Refusal>) -> Told
     ensures { result ≡ told_of (reclaimed_told a) }
 {
     match a {
-        Reclaimed::Done(c) => few(
+        Ok(Reclaimed::Done(c)) => numbered(
             0,
-            5,
-            c.id,
-            c.length,
-            bit(c.yes),
-            c.number as u64,
-            c.packets as u64,
+            &[
+                c.id,
+                c.length,
+                u64::from(c.yes),
+                c.number as u64,
+                c.packets as u64,
+            ],
         ),
-        Reclaimed::Cancelled => few(7, 0, 0, 0, 0, 0, 0),
-        Reclaimed::Failed(code) => few(8, 1, code as u64, 0, 0, 0, 0),
-        Reclaimed::Mismatch => few(9, 0, 0, 0, 0, 0, 0),
-        Reclaimed::Nothing => few(10, 0, 0, 0, 0, 0, 0),
-        Reclaimed::Refused(number) => few(number, 0, 0, 0, 0, 0, 0),
+        Ok(Reclaimed::Cancelled) => numbered(7, &[]),
+        Ok(Reclaimed::Failed(code)) => numbered(8, &[u64::from(code)]),
+        Ok(Reclaimed::Mismatch) => numbered(9, &[]),
+        Ok(Reclaimed::Nothing) => numbered(10, &[]),
+        Err(refusal) => refused(refusal),
     }
 }
 
-pub fn resetting(a: Resetting) -> Told
+// Nothing to do, or the words of two commands.
+pub fn resetting(a: Result<Option<ResetCommands>, Refusal>) -> Told
     ensures { result ≡ told_of (resetting_number a) }
 {
     match a {
-        Resetting::Clear => few(0, 0, 0, 0, 0, 0, 0),
-        Resetting::Commands { reset, dequeue } => commands(8, reset, dequeue),
-        Resetting::Refused(number) => few(number, 0, 0, 0, 0, 0, 0),
+        Ok(None) => numbered(0, &[]),
+        Ok(Some(ResetCommands { reset, dequeue })) => numbered(
+            0,
+            &[
+                u64::from(reset.w0),
+                u64::from(reset.w1),
+                u64::from(reset.w2),
+                u64::from(reset.w3),
+                u64::from(dequeue.w0),
+                u64::from(dequeue.w1),
+                u64::from(dequeue.w2),
+                u64::from(dequeue.w3),
+            ],
+        ),
+        Err(refusal) => refused(refusal),
     }
 }
 
-pub fn command(a: Command) -> Told
+pub fn command(a: Result<Words, Refusal>) -> Told
     ensures { result ≡ told_of (command_number a) }
 {
     match a {
-        Command::Words(w) => {
-            let none = Words {
-                w0: 0,
-                w1: 0,
-                w2: 0,
-                w3: 0,
-            };
-            commands(4, w, none)
-        }
-        Command::Refused(number) => few(number, 0, 0, 0, 0, 0, 0),
+        Ok(Words { w0, w1, w2, w3 }) => numbered(
+            0,
+            &[u64::from(w0), u64::from(w1), u64::from(w2), u64::from(w3)],
+        ),
+        Err(refusal) => refused(refusal),
     }
 }
 
-pub fn pointed(a: Pointed) -> Told
+pub fn pointed(a: Result<Pointer, Refusal>) -> Told
     ensures { result ≡ told_of (pointed_number a) }
 {
     match a {
-        Pointed::At(p) => few(0, 2, p.address, bit(p.cycle), 0, 0, 0),
-        Pointed::Refused(number) => few(number, 0, 0, 0, 0, 0, 0),
+        Ok(p) => numbered(0, &[p.address, u64::from(p.cycle)]),
+        Err(refusal) => refused(refusal),
     }
 }
 
 // The answer's words are written, and its number comes back.
-pub fn tell(words: &mut [u64], t: Told) -> u32
-    requires { length words.old ≡ answer_words }
+#[tactic(auto, unfolding(crate::specs::Answer::spoken))]
+pub fn tell(words: &mut [u64; ANSWER_WORDS], t: Told) -> u32
     ensures { (result, words.new) ≡ spoken t }
 {
-    words[0] = t.count;
-    words[1] = t.v0;
-    words[2] = t.v1;
-    words[3] = t.v2;
-    words[4] = t.v3;
-    words[5] = t.v4;
-    words[6] = t.v5;
-    words[7] = t.v6;
-    words[8] = t.v7;
+    words.copy_from_slice(&t.words);
     t.number
 }

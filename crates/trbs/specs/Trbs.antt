@@ -2,7 +2,7 @@
 use Rattle.std.specs.Prelude.{ℕ, ◌&&◌, eqb, ltb}
 use Rattle.base.specs.First.{pick}
 use Rattle.trb.specs.declared.Trb.{Trb}
-use Rattle.sizes.specs.Sizes.{control, isoch}
+use Rattle.records.specs.Kinds.{kind_is, control, isoch}
 use Rattle.records.specs.declared.Record.{Record}
 use Rattle.dock.specs.declared.Endpoint.{Endpoint}
 use Rattle.dock.specs.Trbs.{setup_trb, data_trb, status_trb, normal_trb, isoch_trb}
@@ -17,4 +17,4 @@ control_trb v k = pick (eqb k 0) (setup_trb v) (pick (eqb k 1 && ltb 0 v.length)
 
 -- TRB k of a record's request, whose packet k asks for so many bytes.
 unfoldable pub trb_with : Endpoint → Record → ℕ → ℕ → Trb
-trb_with e v size k = pick (eqb v.kind control) (control_trb v k) (pick (eqb v.kind isoch) (isoch_trb e v k size) (normal_trb e v))
+trb_with e v size k = pick (kind_is v.kind control) (control_trb v k) (pick (kind_is v.kind isoch) (isoch_trb e v k size) (normal_trb e v))

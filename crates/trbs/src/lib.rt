@@ -8,20 +8,18 @@ ghost use Rattle.trbs.specs.Trbs.{first_of, control_trb, trb_with};
 
 use bursts::Bursts;
 use dock::Endpoint;
-use records::Record;
+use records::{Kind, Record};
 use trb::Trb;
 
 // Setup: "bits 16-17 = 0 no data, 2 out, 3 in".
 fn transfer_type(v: Record) -> u32
     ensures { result ≡ transfer_type v }
 {
-    if v.length == 0 {
-        return 0;
+    match (v.length, v.incoming) {
+        (0, _) => 0,
+        (_, true) => 3,
+        (_, false) => 2,
     }
-    if v.incoming {
-        return 3;
-    }
-    2
 }
 
 fn setup_trb(v: Record) -> Trb
@@ -38,6 +36,7 @@ fn setup_trb(v: Record) -> Trb
 }
 
 // The first TRB of a deferred TD, which goes by its record alone.
+#[tactic(auto, unfolding(crate::specs::Trbs::first_of))]
 pub fn first_trb(v: Record) -> Trb
     ensures { result ≡ first_of v }
 {
@@ -60,13 +59,7 @@ pub fn data_trb(v: Record) -> Trb
 fn status_in(v: Record) -> bool
     ensures { result ≡ not (v.incoming && ltb 0 v.length) }
 {
-    if !v.incoming {
-        return true;
-    }
-    if v.length == 0 {
-        return true;
-    }
-    false
+    !(v.incoming && 0 < v.length)
 }
 
 // Status: "bit 5 (interrupt), bit 16 clear exactly for in with data".
@@ -124,31 +117,26 @@ fn isoch_trb(e: Endpoint, v: Record, size: u32, k: usize) -> Trb
 }
 
 // TRB k of a control request: setup, data where there is any, status.
+#[tactic(auto, unfolding(crate::specs::Trbs::control_trb))]
 fn control_trb(v: Record, k: usize) -> Trb
     ensures { result ≡ control_trb v k }
 {
-    if k == 0 {
-        return setup_trb(v);
+    match k {
+        0 => setup_trb(v),
+        1 if 0 < v.length => data_trb(v),
+        _ => status_trb(v),
     }
-    if k != 1 {
-        return status_trb(v);
-    }
-    if v.length == 0 {
-        return status_trb(v);
-    }
-    data_trb(v)
 }
 
 // TRB k of a record's request, whose packet k asks for so many bytes.
+#[tactic(auto, unfolding(crate::specs::Trbs::trb_with))]
 pub fn trb_of(e: Endpoint, v: Record, size: u32, k: usize) -> Trb
     requires { k ≤ packet_count }
     ensures { result ≡ trb_with e v size k }
 {
-    if v.kind == sizes::CONTROL {
-        return control_trb(v, k);
+    match v.kind {
+        Some(Kind::Control) => control_trb(v, k),
+        Some(Kind::Isoch) => isoch_trb(e, v, size, k),
+        _ => normal_trb(e, v),
     }
-    if v.kind == sizes::ISOCH {
-        return isoch_trb(e, v, size, k);
-    }
-    normal_trb(e, v)
 }

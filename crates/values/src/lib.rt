@@ -3,11 +3,12 @@
 #![tactic(auto)]
 
 ghost use Rattle.std.specs.Prelude.{◌≡◌, ◌%◌, ◌<◌, length};
-ghost use Rattle.values.specs.Values.{value, byte, half, word, shape_of, identity_of, what_of, address_at, request_of, lengths_of, event_of, opening_of, is_bad};
+ghost use Rattle.values.specs.Values.{value, byte, half, word, shape_of, identity_of, what_of, address_at, request_of, lengths_of, event_of, is_ring, opening_of, is_bad};
 
 use dock::{Endpoint, Identity, Request, Shape, What};
-use lines::Reading;
+use lines::{Line, Reading};
 use trb::Words;
+use words::Word;
 
 // How the session goes on: with the next line; with no ring; or not at all, since the line was bad.
 #[derive(Clone, Copy)]
@@ -17,11 +18,10 @@ pub enum Next {
     Bad,
 }
 
-// What a line leaves: the endpoint, how many bytes stand on the page, and how the session goes on.
+// What a line leaves: the endpoint, and how the session goes on.
 #[derive(Clone, Copy)]
 pub struct Turn {
     pub e: Endpoint,
-    pub at: usize,
     pub next: Next,
 }
 
@@ -37,13 +37,10 @@ pub enum Opening {
 pub fn value(values: &[u64], i: usize) -> u64
     ensures { result ≡ value values.now i }
 {
-    if i < values.len() {
-        return values[i];
-    }
-    0
+    values.get(i).copied().unwrap_or(0)
 }
 
-// A value as a smaller number: the line's reader has seen to it that it fits.
+// A value as a smaller number: the line's reader has seen to it that it fits. Three functions, since no conversion of the library cuts.
 pub fn byte(v: u64) -> u8
     ensures { result ≡ byte v }
 {
@@ -63,6 +60,7 @@ pub fn word(v: u64) -> u32
 }
 
 // A `ring` line has slots, base, mask, slot id and dci: the ring's numbers,
+#[tactic(auto, unfolding(crate::specs::Values::shape_of))]
 pub fn shape_of(values: &[u64]) -> Shape
     ensures { result ≡ shape_of values.now }
 {
@@ -73,6 +71,7 @@ pub fn shape_of(values: &[u64]) -> Shape
 }
 
 // and who the endpoint is.
+#[tactic(auto, unfolding(crate::specs::Values::identity_of))]
 pub fn identity_of(values: &[u64]) -> Identity
     ensures { result ≡ identity_of values.now }
 {
@@ -84,39 +83,38 @@ pub fn identity_of(values: &[u64]) -> Identity
 }
 
 // What a word and its values ask for.
-fn what_of(name: u64, values: &[u64]) -> What
+#[tactic(auto, unfolding(crate::specs::Values::what_of))]
+fn what_of(name: Word, values: &[u64]) -> What
     ensures { result ≡ what_of name values.now }
 {
     let a = value(values, 0);
-    if name == words::CONTROL {
-        return What::Control {
+    match name {
+        Word::Control => What::Control {
             request_type: byte(a),
             request: byte(value(values, 1)),
             value: half(value(values, 2)),
             index: half(value(values, 3)),
-        };
+        },
+        Word::Iso => What::Isoch { incoming: a == 1 },
+        Word::Interrupt => What::Interrupt { incoming: a == 1 },
+        _ => What::Bulk { incoming: a == 1 },
     }
-    if name == words::ISO {
-        return What::Isoch { incoming: a == 1 };
-    }
-    if name == words::INTERRUPT {
-        return What::Interrupt { incoming: a == 1 };
-    }
-    What::Bulk { incoming: a == 1 }
 }
 
 // Where the address stands; the length is behind it.
-fn address_at(name: u64) -> usize
+#[tactic(auto, unfolding(crate::specs::Values::address_at))]
+fn address_at(name: Word) -> usize
     ensures { (result ≡ address_at name) × (result < 5) }
 {
-    if name == words::CONTROL {
-        return 4;
+    match name {
+        Word::Control => 4,
+        _ => 1,
     }
-    1
 }
 
 // The request that a word and its values make.
-pub fn request_of(name: u64, values: &[u64]) -> Request
+#[tactic(auto, unfolding(crate::specs::Values::request_of))]
+pub fn request_of(name: Word, values: &[u64]) -> Request
     ensures { result ≡ request_of name values.now }
 {
     let at = address_at(name);
@@ -128,22 +126,18 @@ pub fn request_of(name: u64, values: &[u64]) -> Request
 }
 
 // The lengths behind an `iso` line's first three values.
-pub fn lengths_of(name: u64, values: &[u64], count: usize) -> &[u64]
+#[tactic(auto, unfolding(crate::specs::Values::lengths_of))]
+pub fn lengths_of(name: Word, values: &[u64], count: usize) -> &[u64]
     ensures { result.now ≡ lengths_of name values.now count }
 {
-    if name != words::ISO {
-        return &values[..0];
+    match name {
+        Word::Iso => values.get(3..count).unwrap_or(&[]),
+        _ => &[],
     }
-    if count < 3 {
-        return &values[..0];
-    }
-    if values.len() < count {
-        return &values[..0];
-    }
-    &values[3..count]
 }
 
 // The four words of an event.
+#[tactic(auto, unfolding(crate::specs::Values::event_of))]
 pub fn event_of(values: &[u64]) -> Words
     ensures { result ≡ event_of values.now }
 {
@@ -155,34 +149,44 @@ pub fn event_of(values: &[u64]) -> Words
     }
 }
 
+// A line that makes a ring.
+#[tactic(auto, unfolding(crate::specs::Values::is_ring))]
+fn is_ring(line: Line) -> bool
+    ensures { result ≡ is_ring line }
+{
+    matches!(
+        line,
+        Line {
+            before: None,
+            word: Word::Ring,
+            ..
+        }
+    )
+}
+
 // A line with no ring made: it makes one, of at most so many slots, or it is bad.
+#[tactic(auto, unfolding(crate::specs::Values::opening_of))]
 pub fn opening_of(r: Reading, values: &[u64], most: u64) -> Opening
     ensures { result ≡ opening_of r values.now most }
 {
-    if !r.good {
-        return Opening::Bad;
+    match r.line() {
+        Some(line) if is_ring(line) => {
+            if most < value(values, 0) {
+                return Opening::TooLarge;
+            }
+            Opening::Ring
+        }
+        _ => Opening::Bad,
     }
-    if r.before != 0 {
-        return Opening::Bad;
-    }
-    if r.word != words::RING {
-        return Opening::Bad;
-    }
-    if most < value(values, 0) {
-        return Opening::TooLarge;
-    }
-    Opening::Ring
 }
 
 // A line with a ring made is bad where it cannot be read, or is another `ring`.
+#[tactic(auto, unfolding(crate::specs::Values::is_bad))]
 pub fn is_bad(r: Reading) -> bool
     ensures { result ≡ is_bad r }
 {
-    if !r.good {
-        return true;
+    match r.line() {
+        Some(line) => is_ring(line),
+        None => true,
     }
-    if r.before != 0 {
-        return false;
-    }
-    r.word == words::RING
 }

@@ -6,27 +6,17 @@ ghost use Rattle.std.specs.Prelude.{◌≡◌, ◌*◌, ◌≤◌, ◌<◌, leng
 ghost use Rattle.sizes.specs.Sizes.{record_count, packet_count, packets_size};
 ghost use Rattle.dock.specs.Reclaim.{total, sweep, reclaim_iso};
 ghost use Rattle.marking.specs.Marking.{nowhere};
-ghost use Rattle.marking.specs.Words.{swept_by, keep_one, keep_below};
-ghost use Rattle.checks.specs.Shown.{Shown};
+ghost use Rattle.marking.specs.Words.{swept_of, keep_one, keep_below};
 ghost use Rattle.walk.specs.Loaded.{loaded};
-ghost use Rattle.walk.specs.Values.{swept_of};
 
-use completing::{completed, unfinished};
-use dock::{Endpoint, ReclaimedOne};
-use marking::{Block, FOUND, REFUSED, Standing};
+use completing::{Flight, unfinished};
+use dock::{After, Reclaimed};
+use marking::{Block, Ended};
 use packets::Packet;
-use records::Record;
 use sizes::PACKET_COUNT;
 
-// How a walk over packets ended: with nothing told yet, at a refused code, or at the last packet.
-#[derive(Clone, Copy)]
-pub enum Walk {
-    Open,
-    Fatal(u32),
-    Found(u32),
-}
-
 // The first packets of a record, out of their words.
+#[tactic(auto, using(crate::proofs::LoadLaws::loaded_more), unfolding(crate::specs::Loaded::loaded))]
 fn load(packets: &[u64], number: usize, count: usize) -> [Packet; PACKET_COUNT]
     requires { (length packets.now ≡ packets_size) × (number < record_count) × (count ≤ packet_count) }
     ensures { result ≡ loaded count packets.now number }
@@ -37,105 +27,77 @@ fn load(packets: &[u64], number: usize, count: usize) -> [Packet; PACKET_COUNT]
         marked: false,
     };
     let mut held = [none; PACKET_COUNT];
-    let mut i: usize = 0;
-    while i < count {
-        let p = packets::packet_at(packets, number, i);
-        held[i] = p;
-        i += 1;
+    for i in 0..count {
+        held[i] = packets::packet_at(packets, number, i);
     }
     held
 }
 
 // A packet goes back into its word where it has been marked.
+#[tactic(auto, unfolding(marking::specs::Words::keep_one))]
 fn keep(packets: &mut [u64], number: usize, k: usize, p: Packet)
     requires { (length packets.old ≡ packets_size) × (number < record_count) × (k < packet_count) }
     ensures { packets.new ≡ keep_one packets.old number k p }
 {
-    let was = packets::packet_at(packets, number, k);
-    if was.marked {
-        return;
-    }
-    if p.marked {
+    if p.marked && !packets::packet_at(packets, number, k).marked {
         packets::put_packet(packets, number, k, p);
     }
 }
 
+#[tactic(auto, using(crate::proofs::LoadLaws::keep_none))]
 fn keep_all(packets: &mut [u64], number: usize, count: usize, held: [Packet; PACKET_COUNT])
     requires { (length packets.old ≡ packets_size) × (number < record_count) × (count ≤ packet_count) }
     ensures { packets.new ≡ keep_below count packets.old number (λ j. get_or held j nowhere) }
 {
-    let mut i: usize = 0;
-    while i < count {
-        let p = held[i];
-        keep(packets, number, i, p);
-        i += 1;
+    for i in 0..count {
+        keep(packets, number, i, held[i]);
     }
 }
 
 // The bytes of the first k packets.
+#[tactic(auto, using(crate::proofs::TotalLaws::actual_small, crate::proofs::TotalLaws::total_none, crate::proofs::TotalLaws::total_more))]
 fn total_of(packets: &[u64], number: usize, k: usize) -> u64
     requires { (length packets.now ≡ packets_size) × (number < record_count) × (k ≤ packet_count) }
     ensures { result ≡ total k packets.now number }
 {
     let mut sum: u64 = 0;
-    let mut i: usize = 0;
-    while i < k {
-        let p = packets::packet_at(packets, number, i);
-        sum += p.actual as u64;
-        i += 1;
+    for i in 0..k {
+        sum += packets::packet_at(packets, number, i).actual as u64;
     }
     sum
 }
 
-// How the walk ended.
-fn told(s: Standing) -> Walk
-    ensures { swept_of result ≡ swept_by s }
+// The walk over the record's packets, and how it ended.
+fn walk_over(flight: Flight, packets: &mut [u64]) -> Ended
+    requires { (length packets.old ≡ packets_size) × (flight.claim.record.count ≤ packet_count) }
+    ensures { (swept_of result, packets.new) ≡ sweep flight.entry.claim.endpoint.shape.slots flight.entry.finished.now flight.entry.claim.record flight.entry.claim.number flight.entry.claim.record.count 0 packets.old }
 {
-    if s.ended == REFUSED {
-        return Walk::Fatal(s.code);
-    }
-    if s.ended == FOUND {
-        return Walk::Found(s.code);
-    }
-    Walk::Open
-}
-
-// The walk over the record's packets.
-fn walk_over(slots: usize, finished: &[u32], packets: &mut [u64], v: Record, number: usize) -> Walk
-    requires { (Shown slots (length finished.now) v.place number) × (length packets.old ≡ packets_size) × (v.count ≤ packet_count) }
-    ensures { (swept_of result, packets.new) ≡ sweep slots finished.now v number v.count 0 packets.old }
-{
-    let count = v.count as usize;
+    let claim = flight.claim;
+    let count = claim.record.count as usize;
     let block = Block {
         first: 0,
         count,
-        place: v.place as usize,
-        slots,
+        place: claim.record.place as usize,
+        slots: claim.endpoint.shape.slots,
     };
-    let held = load(packets, number, count);
-    let done = sweeping::marked_block(held, finished, block);
-    let marked = done.packets;
-    keep_all(packets, number, count, marked);
-    told(done.standing)
+    let held = load(packets, claim.number, count);
+    let done = sweeping::marked_block(held, flight.finished, block);
+    keep_all(packets, claim.number, count, done.packets);
+    done.standing.ended
 }
 
-pub fn reclaim_iso(
-    e: Endpoint,
-    finished: &[u32],
-    packets: &mut [u64],
-    v: Record,
-    number: usize,
-) -> ReclaimedOne
-    requires { (Shown e.shape.slots (length finished.now) v.place number) × (length packets.old ≡ packets_size) × (v.count ≤ packet_count) }
-    ensures { (result, packets.new) ≡ reclaim_iso e finished.now packets.old v number }
+#[tactic(auto, unfolding(dock::specs::Reclaim::reclaim_iso))]
+pub fn reclaim_iso(flight: Flight, packets: &mut [u64]) -> After<Reclaimed>
+    requires { (length packets.old ≡ packets_size) × (flight.claim.record.count ≤ packet_count) }
+    ensures { (result, packets.new) ≡ reclaim_iso flight.entry.claim.endpoint flight.entry.finished.now packets.old flight.entry.claim.record flight.entry.claim.number }
 {
-    let swept = walk_over(e.shape.slots, finished, packets, v, number);
-    match swept {
-        Walk::Open => unfinished(e),
-        Walk::Fatal(code) => completed(e, v, number, code, true, 0),
-        Walk::Found(code) => {
-            let size = total_of(packets, number, v.count as usize);
-            completed(e, v, number, code, false, size)
+    let claim = flight.claim;
+    match walk_over(flight, packets) {
+        Ended::Open | Ended::Unfit => unfinished(claim.endpoint),
+        Ended::Refused(code) => claim.completed(code, true, 0),
+        Ended::Found(code) => {
+            let size = total_of(packets, claim.number, claim.record.count as usize);
+            claim.completed(code, false, size)
         }
     }
 }

@@ -6,13 +6,6 @@ ghost use Rattle.base.specs.Fields.{flag, word};
 ghost use Rattle.trb.specs.Layouts.{address_low, address_high, pointer_low, sizes, setup_request, setup_index, setup_control};
 ghost use Rattle.trb.specs.Layouts.{data_control, status_control, normal_control, isoch_control, link_control, command_control};
 
-// A flag as a bit.
-fn bit(b: bool) -> u32
-    ensures { (result ≡ flag b) × (result < 2) }
-{
-    if b { 1 } else { 0 }
-}
-
 pub fn low(address: u64) -> u32
     ensures { result ≡ word (address_low address) }
 {
@@ -29,7 +22,7 @@ pub fn pointer(address: u64, state: bool) -> u32
     ensures { result ≡ word (pointer_low address state) }
 {
     let upper = (address / 16 % 0x1000_0000) as u32;
-    bit(state) + upper * 16
+    u32::from(state) + upper * 16
 }
 
 pub fn sized(length: u32, size: u32, target: u32) -> u32
@@ -53,25 +46,29 @@ pub fn index(index: u16, length: u16) -> u32
 pub fn setup(cycle: bool, transfer: u32) -> u32
     ensures { result ≡ word (setup_control cycle transfer) }
 {
-    bit(cycle) + 0x840 + transfer % 4 * 0x1_0000
+    u32::from(cycle) + 0x840 + transfer % 4 * 0x1_0000
 }
 
 pub fn data(cycle: bool, short: bool, incoming: bool) -> u32
     ensures { result ≡ word (data_control cycle short incoming) }
 {
-    bit(cycle) + bit(short) * 4 + 0xc00 + bit(incoming) * 0x1_0000
+    u32::from(cycle) + u32::from(short) * 4 + 0xc00 + u32::from(incoming) * 0x1_0000
 }
 
 pub fn status(cycle: bool, interrupt: bool, incoming: bool) -> u32
     ensures { result ≡ word (status_control cycle interrupt incoming) }
 {
-    bit(cycle) + bit(interrupt) * 32 + 0x1000 + bit(incoming) * 0x1_0000
+    u32::from(cycle) + u32::from(interrupt) * 32 + 0x1000 + u32::from(incoming) * 0x1_0000
 }
 
 pub fn normal(cycle: bool, short: bool, chain: bool, interrupt: bool) -> u32
     ensures { result ≡ word (normal_control cycle short chain interrupt) }
 {
-    bit(cycle) + bit(short) * 4 + bit(chain) * 16 + bit(interrupt) * 32 + 0x400
+    u32::from(cycle)
+        + u32::from(short) * 4
+        + u32::from(chain) * 16
+        + u32::from(interrupt) * 32
+        + 0x400
 }
 
 pub fn isoch(
@@ -86,20 +83,26 @@ pub fn isoch(
 ) -> u32
     ensures { result ≡ word (isoch_control cycle short chain interrupt block last frame asap) }
 {
-    let flags = bit(cycle) + bit(short) * 4 + bit(chain) * 16 + bit(interrupt) * 32;
-    let counts = bit(block) * 0x200 + 0x1400 + last % 16 * 0x1_0000;
-    flags + counts + frame % 0x800 * 0x10_0000 + bit(asap) * 0x8000_0000
+    let flags = u32::from(cycle)
+        + u32::from(short) * 4
+        + u32::from(chain) * 16
+        + u32::from(interrupt) * 32;
+    let counts = u32::from(block) * 0x200 + 0x1400 + last % 16 * 0x1_0000;
+    flags + counts + frame % 0x800 * 0x10_0000 + u32::from(asap) * 0x8000_0000
 }
 
 pub fn link(cycle: bool, toggle: bool, chain: bool) -> u32
     ensures { result ≡ word (link_control cycle toggle chain) }
 {
-    bit(cycle) + bit(toggle) * 2 + bit(chain) * 16 + 0x1800
+    u32::from(cycle) + u32::from(toggle) * 2 + u32::from(chain) * 16 + 0x1800
 }
 
 // A command for an endpoint, of any type.
 pub fn command(cycle: bool, form: u32, endpoint: u8, slot: u8) -> u32
     ensures { result ≡ word (command_control cycle form endpoint slot) }
 {
-    bit(cycle) + form % 64 * 0x400 + endpoint as u32 % 32 * 0x1_0000 + slot as u32 * 0x100_0000
+    u32::from(cycle)
+        + form % 64 * 0x400
+        + endpoint as u32 % 32 * 0x1_0000
+        + slot as u32 * 0x100_0000
 }

@@ -1,8 +1,10 @@
 -- The words of a session and of a drive, and the fields that each takes. Document 01, "A session is lines of text"; a drive's words are in docs/DRIVE.md.
-use Rattle.std.specs.Prelude.{ℕ, ◌+◌, ◌-◌, ◌*◌, ◌/◌, ◌^◌, Bool, ◌||◌, List, [], ◌∷◌, eqb}
+use Rattle.std.specs.Prelude.{ℕ, ◌+◌, ◌-◌, ◌*◌, ◌/◌, ◌^◌, Bool, true, false, ◌||◌, List, [], ◌∷◌, eqb, Option, None, Some}
 use Rattle.base.specs.First.{pick}
+use Rattle.words.specs.declared.Word.{Word}
+use Rattle.words.specs.declared.Word.TheVariants.{Ring, Control, Bulk, Iso, Event, Reclaim, Cancel, Configure, Interrupt, Begin, Store, Whole, Slot, Retire, Stop, Resume, Reset, End, Pointer, Step, NextId, Poke, State, New, Finished, Records, Packets}
 
--- A word is the number that its letters make, a to z as the digits 1 to 26 of base 32; `spelling` has every word's letters beside it.
+-- The letters of a word make a number, a to z as the digits 1 to 26 of base 32; `spelling` has every word's letters beside it.
 abbrev pub ring_word : ℕ
 ring_word = 599495
 
@@ -115,10 +117,41 @@ spelling =
     ∷ (packets_word, 112 ∷ 97 ∷ 99 ∷ 107 ∷ 101 ∷ 116 ∷ 115 ∷ [])
     ∷ []
 
+-- The word whose letters make a number.
+unfoldable pub word_of : ℕ → Option Word
+word_of n =
+    pick (eqb n ring_word) (Some Ring)
+    (pick (eqb n control_word) (Some Control)
+    (pick (eqb n bulk_word) (Some Bulk)
+    (pick (eqb n iso_word) (Some Iso)
+    (pick (eqb n event_word) (Some Event)
+    (pick (eqb n reclaim_word) (Some Reclaim)
+    (pick (eqb n cancel_word) (Some Cancel)
+    (pick (eqb n configure_word) (Some Configure)
+    (pick (eqb n interrupt_word) (Some Interrupt)
+    (pick (eqb n begin_word) (Some Begin)
+    (pick (eqb n store_word) (Some Store)
+    (pick (eqb n whole_word) (Some Whole)
+    (pick (eqb n slot_word) (Some Slot)
+    (pick (eqb n retire_word) (Some Retire)
+    (pick (eqb n stop_word) (Some Stop)
+    (pick (eqb n resume_word) (Some Resume)
+    (pick (eqb n reset_word) (Some Reset)
+    (pick (eqb n end_word) (Some End)
+    (pick (eqb n pointer_word) (Some Pointer)
+    (pick (eqb n step_word) (Some Step)
+    (pick (eqb n nextid_word) (Some NextId)
+    (pick (eqb n poke_word) (Some Poke)
+    (pick (eqb n state_word) (Some State)
+    (pick (eqb n new_word) (Some New)
+    (pick (eqb n finished_word) (Some Finished)
+    (pick (eqb n records_word) (Some Records)
+    (pick (eqb n packets_word) (Some Packets) None))))))))))))))))))))))))))
+
 -- ---- the kinds of fields
 
 -- Decimal: a count, length or id of 64 bits, one of 8 and one of 16 bits, and a flag, 0 or 1. Hex: an address or mask of 64 bits, and fields of 8, 16
--- and 32 bits. Then the form of no word, a word that names another, and counts to the line's end.
+-- and 32 bits. Then a word that names another, and counts to the line's end.
 abbrev pub count : ℕ
 count = 1
 
@@ -142,9 +175,6 @@ flag = 7
 
 abbrev pub count16 : ℕ
 count16 = 8
-
-abbrev pub unknown : ℕ
-unknown = 13
 
 abbrev pub name : ℕ
 name = 14
@@ -175,54 +205,77 @@ ring_form = form (count ∷ address ∷ address ∷ octet ∷ octet ∷ [])
 abbrev pub event_form : ℕ
 event_form = form (hex32 ∷ hex32 ∷ hex32 ∷ hex32 ∷ [])
 
-unfoldable pub session_form : ℕ → ℕ
-session_form w =
-    pick (eqb w ring_word) ring_form
-    (pick (eqb w control_word) control_form
-    (pick (eqb w bulk_word) bulk_form
-    (pick (eqb w iso_word) iso_form
-    (pick (eqb w event_word) event_form
-    (pick (eqb w reclaim_word || eqb w cancel_word) count unknown)))))
+unfoldable pub session_form : Word → Option ℕ
+session_form Ring = Some ring_form
+session_form Control = Some control_form
+session_form Bulk = Some bulk_form
+session_form Iso = Some iso_form
+session_form Event = Some event_form
+session_form Reclaim = Some count
+session_form Cancel = Some count
+session_form w = None
 
 -- A drive's words that take no field, that take one count, and that name another word.
-unfoldable pub is_bare : ℕ → Bool
-is_bare w =
-    eqb w store_word || (eqb w retire_word || (eqb w stop_word || (eqb w resume_word
-    || (eqb w reset_word || (eqb w pointer_word || (eqb w state_word || eqb w new_word))))))
+unfoldable pub is_bare : Word → Bool
+is_bare Store = true
+is_bare Retire = true
+is_bare Stop = true
+is_bare Resume = true
+is_bare Reset = true
+is_bare Pointer = true
+is_bare State = true
+is_bare New = true
+is_bare w = false
 
-unfoldable pub takes_count : ℕ → Bool
-takes_count w = eqb w slot_word || (eqb w step_word || eqb w nextid_word)
+unfoldable pub takes_count : Word → Bool
+takes_count Slot = true
+takes_count Step = true
+takes_count NextId = true
+takes_count w = false
 
-unfoldable pub takes_name : ℕ → Bool
-takes_name w = eqb w begin_word || (eqb w whole_word || eqb w poke_word)
+unfoldable pub takes_name : Word → Bool
+takes_name Begin = true
+takes_name Whole = true
+takes_name Poke = true
+takes_name w = false
 
 -- Max packet, burst and interval: "a u16 and two u8".
-unfoldable pub drive_form : ℕ → ℕ
+unfoldable pub own_form : Word → Option ℕ
+own_form End = Some flag
+own_form Configure = Some (form (count16 ∷ octet ∷ octet ∷ []))
+own_form Interrupt = Some bulk_form
+own_form w = session_form w
+
+unfoldable pub drive_form : Word → Option ℕ
 drive_form w =
-    pick (is_bare w) 0
-    (pick (takes_count w) count
-    (pick (takes_name w) name
-    (pick (eqb w end_word) flag
-    (pick (eqb w configure_word) (form (count16 ∷ octet ∷ octet ∷ []))
-    (pick (eqb w interrupt_word) bulk_form (session_form w))))))
+    pick (is_bare w) (Some 0)
+    (pick (takes_count w) (Some count)
+    (pick (takes_name w) (Some name) (own_form w)))
 
 -- Behind `begin` or `whole`: a request.
-unfoldable pub request_form : ℕ → ℕ
-request_form w =
-    pick (eqb w control_word) control_form
-    (pick (eqb w bulk_word || eqb w interrupt_word) bulk_form
-    (pick (eqb w iso_word) iso_form unknown))
+unfoldable pub request_form : Word → Option ℕ
+request_form Control = Some control_form
+request_form Bulk = Some bulk_form
+request_form Interrupt = Some bulk_form
+request_form Iso = Some iso_form
+request_form w = None
 
 -- Behind `poke`: a table, an index and a word as large as the table's.
-unfoldable pub table_form : ℕ → ℕ
-table_form w =
-    pick (eqb w ring_word || eqb w finished_word) (form (count ∷ hex32 ∷ []))
-    (pick (eqb w records_word || eqb w packets_word) (form (count ∷ address ∷ [])) unknown)
+unfoldable pub table_form : Word → Option ℕ
+table_form Ring = Some (form (count ∷ hex32 ∷ []))
+table_form Finished = Some (form (count ∷ hex32 ∷ []))
+table_form Records = Some (form (count ∷ address ∷ []))
+table_form Packets = Some (form (count ∷ address ∷ []))
+table_form w = None
 
--- The form of a word, behind another or, where that is 0, as the line's first. A session has its own words alone.
-unfoldable pub form_of : Bool → ℕ → ℕ → ℕ
-form_of full before w =
-    pick full (pick (eqb before 0) (drive_form w) (pick (eqb before poke_word) (table_form w) (request_form w))) (session_form w)
+-- The form of a word, behind another or as the line's first. A session has its own words alone.
+unfoldable pub form_behind : Option Word → Word → Option ℕ
+form_behind None w = drive_form w
+form_behind (Some Poke) w = table_form w
+form_behind (Some before) w = request_form w
+
+unfoldable pub form_of : Bool → Option Word → Word → Option ℕ
+form_of full before w = pick full (form_behind before w) (session_form w)
 
 -- ---- what a kind is
 

@@ -8,14 +8,14 @@ use Rattle.completion.proofs.mark.Goals as goal
 pub set_word-requires : goal.set_word-requires
 set_word-requires c =
     let a = c.args in
-    let h = found_within a.records.now a.occupancy a.id _ (sym c.in-At.is ∙ c.find_id-found.ensures) in
+    let h = found_within a.records.now a.occupancy a.id _ (sym c.in-Some.is ∙ c.find_id-found.ensures) in
     search rules
 
-pub returns-in-Nothing : goal.returns-in-Nothing
-returns-in-Nothing c =
-    let a = c.args in ap (marked a.records.now) (sym c.in-Nothing.is ∙ c.find_id-found.ensures)
+pub returns-in-None : goal.returns-in-None
+returns-in-None c =
+    let a = c.args in ap (marked a.records.now) (sym c.in-None.is ∙ c.find_id-found.ensures)
 
-pub returns-in-At : goal.returns-in-At
-returns-in-At c =
+pub returns-in-Some : goal.returns-in-Some
+returns-in-Some c =
     let a = c.args in
-    c.set_word.ensures ∙ ap (marked a.records.now) (sym c.in-At.is ∙ c.find_id-found.ensures)
+    c.set_word.ensures ∙ ap (marked a.records.now) (sym c.in-Some.is ∙ c.find_id-found.ensures)

@@ -1,20 +1,17 @@
 -- `fits` meets its contract, without a product that could be too large. Assumes nothing.
 use native.Mathlib.Omega.{arith}
-use Rattle.base.proofs.Decide.{fails}
+use Rattle.base.proofs.Decide.{if_not}
 use Rattle.digits.proofs.NumberLaws.{by_fits, divided}
 use Rattle.digits.proofs.fits.Goals as goal
 
-pub returns-then-base-digit : goal.returns-then-base-digit
-returns-then-base-digit c =
+pub returns-then-digit-most : goal.returns-then-digit-most
+returns-then-digit-most c =
     let a = c.args in
-    fails (by_fits a.value a.base a.digit a.most) (λ h. omega arith)
+    let in_reach = c.if-digit-most.true in
+    divided a.value a.base a.digit a.most in_reach.0 in_reach.1
 
-pub returns-then-most-digit : goal.returns-then-most-digit
-returns-then-most-digit c =
+pub returns-else-digit-most : goal.returns-else-digit-most
+returns-else-digit-most c =
     let a = c.args in
-    fails (by_fits a.value a.base a.digit a.most) (λ h. omega arith)
-
-pub returns : goal.returns
-returns c =
-    let a = c.args in
-    divided a.value a.base a.digit a.most (omega arith) (omega arith)
+    let none = if_not (by_fits a.value a.base a.digit a.most) (λ h. omega (arith, c.if-digit-most.either)) in
+    grind (arith, none)

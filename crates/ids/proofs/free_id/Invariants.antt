@@ -1,9 +1,9 @@
 -- `ids::free_id` meets its contract. Assumes nothing.
 -- The outer loop: the candidate is one that the search of the definition reaches (`Trying`); the measure is the steps that are left of 64.
--- The inner loop: no record below r holds the candidate; the measure is the records that are left.
+-- The inner loop: no record below r holds the candidate.
 use mathlib.Core.Path.{◌≡◌}
 use mathlib.Core.Bool.{false}
-use Prim.Native.Nat.{ℕ, ◌-◌, ◌≤◌, ◌<◌}
+use Prim.Native.Nat.{ℕ, ◌-◌, ◌<◌}
 use Rattle.mask.specs.Occupancy.{held}
 use Rattle.sizes.specs.Sizes.{record_count}
 use Rattle.ids.specs.Free.{id_at, held_by}
@@ -12,11 +12,7 @@ use Rattle.ids.proofs.free_id.Given as goal
 
 abbrev pub invariant-loop-r : goal.invariant-loop-r
 invariant-loop-r l =
-    (l.candidate ≡ l.initial.candidate) × (l.r ≤ record_count) × ((k : ℕ) → k < l.r → held_by (held l.occupancy) (id_at l.records) l.candidate k ≡ false)
-
-abbrev pub decreases-loop-r : goal.decreases-loop-r
-decreases-loop-r l =
-    record_count - l.r
+    (l.candidate ≡ l.initial.candidate) × ((k : ℕ) → k < l.r → held_by (held l.occupancy) (id_at l.records) l.candidate k ≡ false)
 
 abbrev pub invariant-ids : goal.invariant-ids
 invariant-ids l =

@@ -1,5 +1,5 @@
 -- `scan` meets its contract. The loop's invariant: what is left to scan, from the line as it stands, is what was to be scanned. Assumes nothing.
-use Prim.Native.Nat.{◌-◌}
+use Prim.Native.Nat.{◌≤◌, max}
 use mathlib.Core.Path.{◌≡◌}
 use lib.ListN.{length, drop}
 use Rattle.lines.specs.Reader.{scan}
@@ -7,8 +7,4 @@ use Rattle.lines.proofs.scan.Given as goal
 
 abbrev pub invariant-loop-at : goal.invariant-loop-at
 invariant-loop-at l =
-    (length l.values ≡ length l.initial.values) × (scan (drop l.at l.bytes) l.at l.line l.values ≡ scan (drop l.from l.bytes) l.from l.initial.line l.initial.values)
-
-abbrev pub decreases-loop-at : goal.decreases-loop-at
-decreases-loop-at l =
-    length l.bytes - l.at
+    (l.at ≤ max l.from (length l.bytes)) × (scan (drop l.at l.bytes) l.at l.line l.values ≡ scan (drop l.from l.bytes) l.from l.initial.line l.initial.values)

@@ -1,24 +1,32 @@
 -- `reclaiming::reclaim_at` meets its contract, by the record's state. Assumes nothing.
 use Prim.Native.Nat.{◌+◌, ◌<◌, ◌≤◌}
-use native.Mathlib.Omega.{arith}
 use mathlib.Core.Path.{ap, ◌∙◌, ◌≡◌}
-use Rattle.sizes.specs.Sizes.{packet_count, isoch}
+use Rattle.std.specs.Prelude.{Some}
+use Rattle.sizes.specs.Sizes.{packet_count}
+use Rattle.records.specs.Kinds.{isoch}
 use Rattle.records.specs.declared.Record.{Record}
+use Rattle.records.specs.declared.State.{State}
+use Rattle.records.specs.declared.State.TheVariants.{InFlight}
 use Rattle.refusal.specs.Misplaced.{misplaced}
 use Rattle.refusal.proofs.CallLaws.{well_placed}
 use Rattle.reclaiming.proofs.reclaim_at.Goals as goal
 
+-- A record in flight is not misplaced, so that its packets and its place fit.
 pub reclaim_flying-requires : goal.reclaim_flying-requires
 reclaim_flying-requires c =
-    let s = c.requires.0 in
-    let slots = c.args.e.shape.slots in
     let v : Record = c.record_at-v.result in
-    -- the record is in flight, and not misplaced
-    let f : (v.place + 1 < slots) × (v.kind ≡ isoch → v.count ≤ packet_count) =
-    well_placed slots v (ap (misplaced slots) c.record_at-v.ensures ∙ c.requires.3) (omega arith) in
-    let p = c.requires in (
-      record { least = s.least; most = s.most; table = s.table; place = f.0; held = s.held },
-      p.1,
-      p.2,
-      f.1,
-    )
+    let slots = c.args.e.shape.slots in
+    let some : v.state ≡ Some c.in-Some-InFlight.field-0 = c.in-Some-InFlight.is in
+    let flying : c.in-Some-InFlight.field-0 ≡ InFlight = rw c.in-Some-InFlight.is at c.in-Some-InFlight.field-0-is in
+    let p = c.requires in
+    (p.1, p.2, (well_placed slots v (ap (misplaced slots) c.record_at-v.ensures ∙ p.3) (some ∙ ap (λ (x : State). Some x) flying)).1)
+
+pub invariant_of-reclaim_flying : goal.invariant_of-reclaim_flying
+invariant_of-reclaim_flying c =
+    let v : Record = c.record_at-v.result in
+    let slots = c.args.e.shape.slots in
+    let some : v.state ≡ Some c.in-Some-InFlight.field-0 = c.in-Some-InFlight.is in
+    let flying : c.in-Some-InFlight.field-0 ≡ InFlight = rw c.in-Some-InFlight.is at c.in-Some-InFlight.field-0-is in
+    let s = c.requires.0 in
+    let place = (well_placed slots v (ap (misplaced slots) c.record_at-v.ensures ∙ c.requires.3) (some ∙ ap (λ (x : State). Some x) flying)).0 in
+    record { shown = record { least = s.least; most = s.most; table = s.table; place = place; held = s.held } }

@@ -1,19 +1,26 @@
 -- `next_store` meets its contract: one check, one act. Assumes nothing.
-use mathlib.Core.Path.{sym, ◌∙◌}
 use borrow.Author.Tests.{ne_eqb}
-use Rattle.dock.specs.NextStore.{store}
+use lib.ListN.{length}
+use Rattle.dock.specs.NextStore.{store_no, store}
+use Rattle.dock.proofs.NumberLaws.{declined, passed}
 use Rattle.storing.specs.Stored.{stored_with, stored_by}
 use Rattle.storing.proofs.StoreLaws.{ready}
 use Rattle.building.proofs.store.next_store.Goals as goal
 
-pub returns-then-no-ne0 : goal.returns-then-no-ne0
+pub returns-in-Err : goal.returns-in-Err
 unfolding store
-returns-then-no-ne0 c = simp (← c.store_no-no.ensures, ne_eqb _ _ c.if-no-ne0.true)
+returns-in-Err c =
+    let a = c.args in
+    let d = declined (store_no a.e (length a.ring.now) (length a.finished.now) a.records.now (length a.packets.now)) c.in-Err.ensures in
+    simp (ne_eqb _ _ d.0, d.1)
 
 pub store_one-requires : goal.store_one-requires
-store_one-requires c = ready _ _ _ _ _ (sym c.store_no-no.ensures ∙ c.if-no-ne0.false)
+store_one-requires c =
+    let a = c.args in
+    ready _ _ _ _ _ (passed (store_no a.e (length a.ring.now) (length a.finished.now) a.records.now (length a.packets.now)) c.in_default.ensures)
 
 pub returns : goal.returns
 unfolding store stored_with stored_by
 returns c =
-    simp (sym c.store_no-no.ensures ∙ c.if-no-ne0.false) c.store_one.ensures
+    let a = c.args in
+    simp (passed (store_no a.e (length a.ring.now) (length a.finished.now) a.records.now (length a.packets.now)) c.in_default.ensures) c.store_one.ensures

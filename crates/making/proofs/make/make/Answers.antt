@@ -1,25 +1,26 @@
 -- `make` meets its contract: one check, the four tables zeroed, one answer. Assumes nothing.
-use mathlib.Core.Path.{sym, ◌∙◌}
 use borrow.Author.Tests.{ne_eqb}
-use Rattle.dock.specs.Make.{make}
+use lib.ListN.{length}
+use Rattle.dock.specs.Make.{make_no, make}
+use Rattle.dock.proofs.NumberLaws.{declined, passed}
 use Rattle.making.proofs.make.make.Goals as goal
 
-pub returns-then-no-ne0 : goal.returns-then-no-ne0
+pub returns-in-Err : goal.returns-in-Err
 unfolding make
-returns-then-no-ne0 c = simp (← c.make_no-no.ensures, ne_eqb _ _ c.if-no-ne0.true, c.blank.ensures)
-
-pub shape_of-ring : goal.shape_of-ring
-shape_of-ring c =
-    c.clear32.auto.table
+returns-in-Err c =
+    let a = c.args in
+    let d = declined (make_no (length a.ring.now) (length a.finished.now) (length a.records.now) (length a.packets.now) a.shape a.who) c.in-Err.ensures in
+    simp (ne_eqb _ _ d.0, d.1, c.blank.ensures)
 
 pub returns : goal.returns
 unfolding make
 returns c =
+    let a = c.args in
     simp (
-      sym c.make_no-no.ensures ∙ c.if-no-ne0.false,
+      passed (make_no (length a.ring.now) (length a.finished.now) (length a.records.now) (length a.packets.now) a.shape a.who) c.in_default.ensures,
       c.fresh.ensures,
-      c.clear32.ensures,
-      c.clear32-2.ensures,
-      c.clear64.ensures,
-      c.clear64-2.ensures,
+      c.fill.ensures.after (λ y k. k),
+      c.fill-2.ensures.after (λ y k. k),
+      c.fill-3.ensures.after (λ y k. k),
+      c.fill-4.ensures.after (λ y k. k),
     )

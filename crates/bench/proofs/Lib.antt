@@ -1,2 +1,0 @@
--- Laws of the controller's steps.
-pub mod WalkLaws

@@ -1,2 +1,0 @@
--- Laws of the stores that a request's line makes.
-pub mod StoreLaws

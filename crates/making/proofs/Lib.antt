@@ -1,2 +1,0 @@
--- The laws of `making`.
-pub mod ZeroLaws

@@ -1,9 +1,0 @@
--- `stages::control::status_by` meets its contract: each arm is the definition at that place. Assumes nothing.
-use Rattle.stages.proofs.control.status_by.Goals as goal
-
-pub returns-in-Nothing : goal.returns-in-Nothing
-returns-in-Nothing c = simp (c.in-Nothing.is, c.unfinished.ensures)
-
-pub returns-in-Event : goal.returns-in-Event
-returns-in-Event c =
-    simp (c.in-Event.is, c.completed.ensures, c.is_accepted.ensures, c.length_of-size.ensures, c.event_of-event.ensures)
