@@ -3,6 +3,7 @@
 
 ghost use Rattle.std.specs.Prelude.{◌≡◌, ◌≤◌, ◌<◌};
 ghost use Rattle.page.specs.Page.{put_all};
+ghost use Rattle.page.specs.Lent.{shown, loan};
 ghost use Rattle.sizes.specs.Sizes.{packet_count};
 ghost use Rattle.phrases.specs.Text.{outcome_line, cut_line, stored_lines};
 ghost use Rattle.phrases.specs.Text.{submitted_line, taken_line, counted_at, lengths_text, done_line, reclaimed_line, command_line, resetting_lines};
@@ -18,7 +19,8 @@ use trb::Words;
 // A word by itself where a call is done.
 #[tactic(auto, unfolding(phrases::specs::Text::outcome_line))]
 pub fn put_outcome(page: &mut Page, name: &[u8], answer: Result<(), Refusal>)
-    ensures { page.new ≡ put_all page.old (outcome_line name.now answer) }
+    ensures page { shown page.new ≡ put_all (shown page.old) (outcome_line name.now answer) }
+    ensures same_bytes { loan page.new ≡ loan page.old }
 {
     match answer {
         Ok(()) => phrases::put_name(page, name),
@@ -29,7 +31,8 @@ pub fn put_outcome(page: &mut Page, name: &[u8], answer: Result<(), Refusal>)
 // `cut`: the id.
 #[tactic(auto, unfolding(phrases::specs::Text::cut_line))]
 pub fn put_cut(page: &mut Page, id: u64, answer: Result<(), Refusal>)
-    ensures { page.new ≡ put_all page.old (cut_line id answer) }
+    ensures page { shown page.new ≡ put_all (shown page.old) (cut_line id answer) }
+    ensures same_bytes { loan page.new ≡ loan page.old }
 {
     match answer {
         Ok(()) => phrases::put_number(page, b"cut", id),
@@ -40,7 +43,8 @@ pub fn put_cut(page: &mut Page, id: u64, answer: Result<(), Refusal>)
 // `store`: the slot and its words; behind the last one `bell`.
 #[tactic(auto, using(page::proofs::PageLaws::put_both), unfolding(phrases::specs::Text::stored_lines))]
 pub fn put_stored(page: &mut Page, ring: &[u32], answer: Result<Stored, Refusal>)
-    ensures { page.new ≡ put_all page.old (stored_lines ring.now answer) }
+    ensures page { shown page.new ≡ put_all (shown page.old) (stored_lines ring.now answer) }
+    ensures same_bytes { loan page.new ≡ loan page.old }
 {
     match answer {
         Ok(Stored::Slot(slot)) => {
@@ -58,7 +62,8 @@ pub fn put_stored(page: &mut Page, ring: &[u32], answer: Result<Stored, Refusal>
 
 #[tactic(auto, unfolding(phrases::specs::Text::submitted_line))]
 pub fn put_submitted(page: &mut Page, answer: Result<Submitted, Refusal>)
-    ensures { page.new ≡ put_all page.old (submitted_line answer) }
+    ensures page { shown page.new ≡ put_all (shown page.old) (submitted_line answer) }
+    ensures same_bytes { loan page.new ≡ loan page.old }
 {
     match answer {
         Ok(Submitted { id, bell }) => phrases::put_bell(page, bell, id),
@@ -69,7 +74,8 @@ pub fn put_submitted(page: &mut Page, answer: Result<Submitted, Refusal>)
 // `taken`: the slot.
 #[tactic(auto, unfolding(phrases::specs::Text::taken_line))]
 pub fn put_taken(page: &mut Page, answer: Result<usize, Refusal>)
-    ensures { page.new ≡ put_all page.old (taken_line answer) }
+    ensures page { shown page.new ≡ put_all (shown page.old) (taken_line answer) }
+    ensures same_bytes { loan page.new ≡ loan page.old }
 {
     match answer {
         Ok(slot) => phrases::put_number(page, b"taken", slot as u64),
@@ -95,7 +101,8 @@ fn counted(packets: &[u64], number: usize, k: usize) -> u64
 #[tactic(auto, unfolding(phrases::specs::Text::lengths_text, page::specs::Page::put_all))]
 fn put_lengths(page: &mut Page, packets: &[u64], number: usize, count: usize)
     requires { count ≤ packet_count }
-    ensures { page.new ≡ put_all page.old (lengths_text count packets.now number 0) }
+    ensures page { shown page.new ≡ put_all (shown page.old) (lengths_text count packets.now number 0) }
+    ensures same_bytes { loan page.new ≡ loan page.old }
 {
     for k in 0..count {
         page.put_decimal(counted(packets, number, k));
@@ -105,7 +112,8 @@ fn put_lengths(page: &mut Page, packets: &[u64], number: usize, count: usize)
 // The lengths and the line's end.
 #[tactic(auto, using(page::proofs::PageLaws::put_both), unfolding(phrases::specs::Text::done_line, phrases::specs::Text::numbers_text))]
 fn put_done(page: &mut Page, packets: &[u64], c: Completion)
-    ensures { page.new ≡ put_all page.old (done_line packets.now c) }
+    ensures page { shown page.new ≡ put_all (shown page.old) (done_line packets.now c) }
+    ensures same_bytes { loan page.new ≡ loan page.old }
 {
     page.put_text(b"done");
     page.put_decimal(c.id);
@@ -117,7 +125,8 @@ fn put_done(page: &mut Page, packets: &[u64], c: Completion)
 
 #[tactic(auto, unfolding(phrases::specs::Text::reclaimed_line))]
 pub fn put_reclaimed(page: &mut Page, packets: &[u64], answer: Result<Reclaimed, Refusal>)
-    ensures { page.new ≡ put_all page.old (reclaimed_line packets.now answer) }
+    ensures page { shown page.new ≡ put_all (shown page.old) (reclaimed_line packets.now answer) }
+    ensures same_bytes { loan page.new ≡ loan page.old }
 {
     match answer {
         Ok(Reclaimed::Done(c)) => put_done(page, packets, c),
@@ -132,7 +141,8 @@ pub fn put_reclaimed(page: &mut Page, packets: &[u64], answer: Result<Reclaimed,
 // `command`: four words.
 #[tactic(auto, using(page::proofs::PageLaws::put_both), unfolding(phrases::specs::Text::command_line))]
 fn put_command(page: &mut Page, w: Words)
-    ensures { page.new ≡ put_all page.old (command_line w) }
+    ensures page { shown page.new ≡ put_all (shown page.old) (command_line w) }
+    ensures same_bytes { loan page.new ≡ loan page.old }
 {
     page.put_text(b"command");
     phrases::put_words(page, w);
@@ -140,7 +150,8 @@ fn put_command(page: &mut Page, w: Words)
 
 #[tactic(auto, using(page::proofs::PageLaws::put_both), unfolding(phrases::specs::Text::resetting_lines))]
 pub fn put_resetting(page: &mut Page, answer: Result<Option<ResetCommands>, Refusal>)
-    ensures { page.new ≡ put_all page.old (resetting_lines answer) }
+    ensures page { shown page.new ≡ put_all (shown page.old) (resetting_lines answer) }
+    ensures same_bytes { loan page.new ≡ loan page.old }
 {
     match answer {
         Ok(None) => phrases::put_name(page, b"clear"),
@@ -154,7 +165,8 @@ pub fn put_resetting(page: &mut Page, answer: Result<Option<ResetCommands>, Refu
 
 #[tactic(auto, unfolding(phrases::specs::Text::commanded_line))]
 pub fn put_commanded(page: &mut Page, answer: Result<Words, Refusal>)
-    ensures { page.new ≡ put_all page.old (commanded_line answer) }
+    ensures page { shown page.new ≡ put_all (shown page.old) (commanded_line answer) }
+    ensures same_bytes { loan page.new ≡ loan page.old }
 {
     match answer {
         Ok(w) => put_command(page, w),
@@ -165,7 +177,8 @@ pub fn put_commanded(page: &mut Page, answer: Result<Words, Refusal>)
 // `pointer`: the address, the cycle.
 #[tactic(auto, using(page::proofs::PageLaws::put_both), unfolding(phrases::specs::Text::pointed_line))]
 pub fn put_pointed(page: &mut Page, answer: Result<Pointer, Refusal>)
-    ensures { page.new ≡ put_all page.old (pointed_line answer) }
+    ensures page { shown page.new ≡ put_all (shown page.old) (pointed_line answer) }
+    ensures same_bytes { loan page.new ≡ loan page.old }
 {
     match answer {
         Ok(p) => {
@@ -181,7 +194,8 @@ pub fn put_pointed(page: &mut Page, answer: Result<Pointer, Refusal>)
 // The account and the flags, of a `state` line.
 #[tactic(auto, using(page::proofs::PageLaws::put_both), unfolding(phrases::specs::Text::state_rest))]
 fn put_rest(page: &mut Page, e: Endpoint)
-    ensures { page.new ≡ put_all page.old (state_rest e) }
+    ensures page { shown page.new ≡ put_all (shown page.old) (state_rest e) }
+    ensures same_bytes { loan page.new ≡ loan page.old }
 {
     page.put_decimal(e.account.next);
     page.put_decimal(u64::from(e.periodic.frame));
@@ -193,7 +207,8 @@ fn put_rest(page: &mut Page, e: Endpoint)
 // `state`: place, cycle, outstanding, next id, next frame, halted, reset under way.
 #[tactic(auto, using(page::proofs::PageLaws::put_both), unfolding(phrases::specs::Text::state_line))]
 pub fn put_state(page: &mut Page, e: Endpoint)
-    ensures { page.new ≡ put_all page.old (state_line e) }
+    ensures page { shown page.new ≡ put_all (shown page.old) (state_line e) }
+    ensures same_bytes { loan page.new ≡ loan page.old }
 {
     page.put_text(b"state");
     page.put_decimal(e.at.place as u64);
@@ -205,7 +220,8 @@ pub fn put_state(page: &mut Page, e: Endpoint)
 // `stands`: slot, cycle.
 #[tactic(auto, using(page::proofs::PageLaws::put_both), unfolding(phrases::specs::Text::stands_line))]
 pub fn put_stands(page: &mut Page, c: Consumer)
-    ensures { page.new ≡ put_all page.old (stands_line c) }
+    ensures page { shown page.new ≡ put_all (shown page.old) (stands_line c) }
+    ensures same_bytes { loan page.new ≡ loan page.old }
 {
     page.put_text(b"stands");
     page.put_decimal(c.slot as u64);

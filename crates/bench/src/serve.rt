@@ -1,6 +1,7 @@
 // The lines that show and forge.
 ghost use Rattle.std.specs.Prelude.{◌≡◌};
 ghost use Rattle.bench.specs.Bench.{serve_poke, is_tool, serve_slot, serve_tools};
+ghost use Rattle.page.specs.Lent.{shown, loan};
 
 use crate::tools;
 use dock::Endpoint;
@@ -44,7 +45,8 @@ pub fn is_tool(w: Word) -> bool
 // `slot`: a slot as it stands in the ring.
 #[tactic(auto, unfolding(crate::specs::Bench::serve_slot))]
 fn serve_slot(e: Endpoint, ring: &[u32], index: u64, page: &mut Page) -> Turn
-    ensures { (result, page.new) ≡ serve_slot e ring.now index page.old }
+    ensures leaves { (result, shown page.new) ≡ serve_slot e ring.now index (shown page.old) }
+    ensures same_bytes { loan page.new ≡ loan page.old }
 {
     let slot = index as usize;
     if ring.len() / 4 <= slot {
@@ -57,7 +59,8 @@ fn serve_slot(e: Endpoint, ring: &[u32], index: u64, page: &mut Page) -> Turn
 
 #[tactic(auto, unfolding(crate::specs::Bench::serve_tools))]
 pub fn serve_tools(e: Endpoint, ring: &[u32], w: Word, values: &[u64], page: &mut Page) -> Turn
-    ensures { (result, page.new) ≡ serve_tools e ring.now w values.now page.old }
+    ensures leaves { (result, shown page.new) ≡ serve_tools e ring.now w values.now (shown page.old) }
+    ensures same_bytes { loan page.new ≡ loan page.old }
 {
     let first = value(values, 0);
     match w {

@@ -2,6 +2,7 @@
 ghost use Rattle.std.specs.Prelude.{◌≡◌};
 ghost use Rattle.bench.specs.Bench.{with_next, forged};
 ghost use Rattle.bench.specs.Walk.{stride, walk, walked};
+ghost use Rattle.page.specs.Lent.{shown, loan};
 
 use controller::{Consumer, Step};
 use dock::Endpoint;
@@ -31,7 +32,8 @@ pub fn forge<T: Copy>(table: &mut [T], index: u64, word: T) -> bool
 // One step: where the controller stands behind it; nothing where it did nothing.
 #[tactic(auto, unfolding(crate::specs::Walk::stride))]
 fn stride(ring: &[u32], c: Consumer, page: &mut Page) -> Option<Consumer>
-    ensures { (result, page.new) ≡ stride ring.now c page.old }
+    ensures leaves { (result, shown page.new) ≡ stride ring.now c (shown page.old) }
+    ensures same_bytes { loan page.new ≡ loan page.old }
 {
     if ring.len() / 4 <= c.slot {
         return None;
@@ -50,7 +52,8 @@ fn stride(ring: &[u32], c: Consumer, page: &mut Page) -> Option<Consumer>
 // So many steps, fewer where one does nothing: where the controller then stands.
 #[tactic(auto, unfolding(crate::specs::Walk::walk))]
 fn walk(most: u64, ring: &[u32], c: Consumer, page: &mut Page) -> Consumer
-    ensures { (result, page.new) ≡ walk most ring.now c page.old }
+    ensures leaves { (result, shown page.new) ≡ walk most ring.now c (shown page.old) }
+    ensures same_bytes { loan page.new ≡ loan page.old }
 {
     let mut stands = c;
     for _ in 0..most {
@@ -65,7 +68,8 @@ fn walk(most: u64, ring: &[u32], c: Consumer, page: &mut Page) -> Consumer
 // The controller takes so many steps, and stops sooner where a step does nothing.
 #[tactic(auto, unfolding(crate::specs::Walk::walked))]
 pub fn walk_on(most: u64, ring: &[u32], c: Consumer, page: &mut Page) -> Consumer
-    ensures { (result, page.new) ≡ walked most ring.now c page.old }
+    ensures leaves { (result, shown page.new) ≡ walked most ring.now c (shown page.old) }
+    ensures same_bytes { loan page.new ≡ loan page.old }
 {
     let stands = walk(most, ring, c, page);
     answers::put_stands(page, stands);

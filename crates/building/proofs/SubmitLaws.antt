@@ -4,13 +4,11 @@ use Prim.Native.Nat.{ℕ, ◌≤◌}
 use mathlib.Core.Bool.{Bool, true, false, ◌&&◌, and-eq-true_iff}
 use mathlib.Core.List.{List}
 use mathlib.Core.Path.{refl, ◌≡◌, sym, ap, subst, ◌∙◌}
-use native.Mathlib.Omega.{arith}
 use borrow.Author.Tests.{eqb-true}
 use lib.Dec.{eqb}
 use lib.ListN.{length}
-use Rattle.std.specs.Prelude.{Some}
 use Rattle.sizes.specs.Sizes.{ring_size, packet_count}
-use Rattle.records.specs.Kinds.{control, bulk, interrupt, isoch}
+use Rattle.records.specs.Kinds.{kind_number, control, bulk, interrupt, isoch}
 use Rattle.records.proofs.KindLaws.{kind_false}
 use Rattle.records.specs.declared.Record.{Record}
 use Rattle.dock.specs.declared.Endpoint.{Endpoint}
@@ -42,7 +40,7 @@ abbrev Left : Type 0
 Left = After Submitted × List ℕ × List ℕ × List ℕ × List ℕ
 
 -- Only an ISO request's lengths are walked.
-few : (what : What) (size : ℕ) (lengths : List ℕ) → too_long what size lengths ≡ false → Some (kind_of what) ≡ isoch → length lengths ≤ packet_count
+few : (what : What) (size : ℕ) (lengths : List ℕ) → too_long what size lengths ≡ false → kind_number (kind_of what) ≡ isoch → length lengths ≤ packet_count
 few (Control type request value index) size lengths short k = absurd (kind_false control isoch refl k)
 few (Bulk incoming) size lengths short k = absurd (kind_false bulk isoch refl k)
 few (Interrupt incoming) size lengths short k = absurd (kind_false interrupt isoch refl k)

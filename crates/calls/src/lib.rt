@@ -6,6 +6,7 @@ ghost use Rattle.dock.specs.Make.{make};
 ghost use Rattle.values.specs.Values.{shape_of, identity_of};
 ghost use Rattle.calls.specs.Calls.{configured, ended, stopped, resumed, pointed, reset, handed, cancelled, retired, reclaimed, begun};
 ghost use Rattle.calls.specs.Calls.{turn, goes_on, stored_one, stores, asked, submitted};
+ghost use Rattle.page.specs.Lent.{shown, loan};
 
 use dock::{After, Endpoint, Refusal, Request, Stored};
 use page::Page;
@@ -47,7 +48,8 @@ pub fn made(
 
 #[tactic(auto, unfolding(crate::specs::Calls::configured))]
 pub fn configured(e: Endpoint, values: &[u64], page: &mut Page) -> Turn
-    ensures { (result, page.new) ≡ configured e values.now page.old }
+    ensures leaves { (result, shown page.new) ≡ configured e values.now (shown page.old) }
+    ensures same_bytes { loan page.new ≡ loan page.old }
 {
     let packet = values::half(values::value(values, 0));
     let burst = values::byte(values::value(values, 1));
@@ -67,7 +69,8 @@ pub fn begun(
     lengths: &[u64],
     page: &mut Page,
 ) -> Turn
-    ensures { (result, records.new, packets.new, page.new) ≡ begun e records.old packets.old request lengths.now page.old }
+    ensures leaves { (result, records.new, packets.new, shown page.new) ≡ begun e records.old packets.old request lengths.now (shown page.old) }
+    ensures same_bytes { loan page.new ≡ loan page.old }
 {
     let s = building::start::start_request(e, records, packets, request, lengths);
     answers::put_outcome(page, b"begun", s.answer);
@@ -91,7 +94,8 @@ pub fn stored(
     packets: &[u64],
     page: &mut Page,
 ) -> StoreTurn
-    ensures { (result, ring.new, finished.new, page.new) ≡ stored_one e ring.old finished.old records.now packets.now page.old }
+    ensures leaves { (result, ring.new, finished.new, shown page.new) ≡ stored_one e ring.old finished.old records.now packets.now (shown page.old) }
+    ensures same_bytes { loan page.new ≡ loan page.old }
 {
     let s = building::store::next_store(e, ring, finished, records, packets);
     answers::put_stored(page, ring, s.answer);
@@ -112,7 +116,8 @@ fn stores(
     packets: &[u64],
     page: &mut Page,
 ) -> Turn
-    ensures { (result, ring.new, finished.new, page.new) ≡ stores most e ring.old finished.old records.now packets.now page.old }
+    ensures leaves { (result, ring.new, finished.new, shown page.new) ≡ stores most e ring.old finished.old records.now packets.now (shown page.old) }
+    ensures same_bytes { loan page.new ≡ loan page.old }
 {
     let mut next = e;
     for _ in 0..most {
@@ -137,7 +142,8 @@ pub fn asked(
     lengths: &[u64],
     page: &mut Page,
 ) -> Turn
-    ensures { (result, ring.new, finished.new, records.new, packets.new, page.new) ≡ asked e ring.old finished.old records.old packets.old request lengths.now page.old }
+    ensures leaves { (result, ring.new, finished.new, records.new, packets.new, shown page.new) ≡ asked e ring.old finished.old records.old packets.old request lengths.now (shown page.old) }
+    ensures same_bytes { loan page.new ≡ loan page.old }
 {
     let s = building::start::start_request(e, records, packets, request, lengths);
     let answer = s.answer;
@@ -163,7 +169,8 @@ pub fn submitted(
     lengths: &[u64],
     page: &mut Page,
 ) -> Turn
-    ensures { (result, ring.new, finished.new, records.new, packets.new, page.new) ≡ submitted e ring.old finished.old records.old packets.old request lengths.now page.old }
+    ensures leaves { (result, ring.new, finished.new, records.new, packets.new, shown page.new) ≡ submitted e ring.old finished.old records.old packets.old request lengths.now (shown page.old) }
+    ensures same_bytes { loan page.new ≡ loan page.old }
 {
     let s = building::submit::submit_request(e, ring, finished, records, packets, request, lengths);
     answers::put_submitted(page, s.answer);
@@ -172,7 +179,8 @@ pub fn submitted(
 
 #[tactic(auto, unfolding(crate::specs::Calls::handed))]
 pub fn handed(e: Endpoint, finished: &mut [u32], values: &[u64], page: &mut Page) -> Turn
-    ensures { (result, finished.new, page.new) ≡ handed e finished.old values.now page.old }
+    ensures leaves { (result, finished.new, shown page.new) ≡ handed e finished.old values.now (shown page.old) }
+    ensures same_bytes { loan page.new ≡ loan page.old }
 {
     let event = values::event_of(values);
     let answer = completion::hand_over(e, finished, event);
@@ -189,7 +197,8 @@ pub fn reclaimed(
     id: u64,
     page: &mut Page,
 ) -> Turn
-    ensures { (result, records.new, packets.new, page.new) ≡ reclaimed e finished.now records.old packets.old id page.old }
+    ensures leaves { (result, records.new, packets.new, shown page.new) ≡ reclaimed e finished.now records.old packets.old id (shown page.old) }
+    ensures same_bytes { loan page.new ≡ loan page.old }
 {
     let r = reclaiming::reclaim_request(e, finished, records, packets, id);
     answers::put_reclaimed(page, packets, r.answer);
@@ -198,7 +207,8 @@ pub fn reclaimed(
 
 #[tactic(auto, unfolding(crate::specs::Calls::cancelled))]
 pub fn cancelled(e: Endpoint, records: &mut [u64], id: u64, page: &mut Page) -> Turn
-    ensures { (result, records.new, page.new) ≡ cancelled e records.old id page.old }
+    ensures leaves { (result, records.new, shown page.new) ≡ cancelled e records.old id (shown page.old) }
+    ensures same_bytes { loan page.new ≡ loan page.old }
 {
     let answer = completion::cancel_request(e, records, id);
     answers::put_cut(page, id, answer);
@@ -207,7 +217,8 @@ pub fn cancelled(e: Endpoint, records: &mut [u64], id: u64, page: &mut Page) -> 
 
 #[tactic(auto, unfolding(crate::specs::Calls::retired))]
 pub fn retired(e: Endpoint, records: &mut [u64], page: &mut Page) -> Turn
-    ensures { (result, records.new, page.new) ≡ retired e records.old page.old }
+    ensures leaves { (result, records.new, shown page.new) ≡ retired e records.old (shown page.old) }
+    ensures same_bytes { loan page.new ≡ loan page.old }
 {
     let r = retiring::retire_all_after_stop(e, records);
     answers::put_outcome(page, b"retired", r.answer);
@@ -216,7 +227,8 @@ pub fn retired(e: Endpoint, records: &mut [u64], page: &mut Page) -> Turn
 
 #[tactic(auto, unfolding(crate::specs::Calls::stopped))]
 pub fn stopped(e: Endpoint, page: &mut Page) -> Turn
-    ensures { (result, page.new) ≡ stopped e page.old }
+    ensures leaves { (result, shown page.new) ≡ stopped e (shown page.old) }
+    ensures same_bytes { loan page.new ≡ loan page.old }
 {
     let answer = stopping::stop_words(e);
     answers::put_commanded(page, answer);
@@ -225,7 +237,8 @@ pub fn stopped(e: Endpoint, page: &mut Page) -> Turn
 
 #[tactic(auto, unfolding(crate::specs::Calls::resumed))]
 pub fn resumed(e: Endpoint, page: &mut Page) -> Turn
-    ensures { (result, page.new) ≡ resumed e page.old }
+    ensures leaves { (result, shown page.new) ≡ resumed e (shown page.old) }
+    ensures same_bytes { loan page.new ≡ loan page.old }
 {
     let answer = stopping::resume_words(e);
     answers::put_commanded(page, answer);
@@ -234,7 +247,8 @@ pub fn resumed(e: Endpoint, page: &mut Page) -> Turn
 
 #[tactic(auto, unfolding(crate::specs::Calls::pointed))]
 pub fn pointed(e: Endpoint, page: &mut Page) -> Turn
-    ensures { (result, page.new) ≡ pointed e page.old }
+    ensures leaves { (result, shown page.new) ≡ pointed e (shown page.old) }
+    ensures same_bytes { loan page.new ≡ loan page.old }
 {
     let answer = stopping::enqueue_pointer(e);
     answers::put_pointed(page, answer);
@@ -243,7 +257,8 @@ pub fn pointed(e: Endpoint, page: &mut Page) -> Turn
 
 #[tactic(auto, unfolding(crate::specs::Calls::reset))]
 pub fn reset(e: Endpoint, records: &[u64], page: &mut Page) -> Turn
-    ensures { (result, page.new) ≡ reset e records.now page.old }
+    ensures leaves { (result, shown page.new) ≡ reset e records.now (shown page.old) }
+    ensures same_bytes { loan page.new ≡ loan page.old }
 {
     let b = resetting::begin_reset(e, records);
     answers::put_resetting(page, b.answer);
@@ -252,7 +267,8 @@ pub fn reset(e: Endpoint, records: &[u64], page: &mut Page) -> Turn
 
 #[tactic(auto, unfolding(crate::specs::Calls::ended))]
 pub fn ended(e: Endpoint, worked: bool, page: &mut Page) -> Turn
-    ensures { (result, page.new) ≡ ended e worked page.old }
+    ensures leaves { (result, shown page.new) ≡ ended e worked (shown page.old) }
+    ensures same_bytes { loan page.new ≡ loan page.old }
 {
     let f = resetting::end_reset(e, worked);
     answers::put_outcome(page, b"ended", f.answer);

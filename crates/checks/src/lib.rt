@@ -30,7 +30,7 @@ pub fn fits(e: Endpoint) -> bool
 pub fn trb_count(v: Record) -> u64
     ensures { (result ≡ trb_count v) × (result ≤ packet_count) }
 {
-    match v.kind {
+    match Kind::from_word(v.kind) {
         Some(Kind::Control) if v.length == 0 => 2,
         Some(Kind::Control) => 3,
         Some(Kind::Isoch) => v.count.min(sizes::PACKET_COUNT as u64),
@@ -45,7 +45,7 @@ pub fn trb_count(v: Record) -> u64
 pub fn is_deferred(v: Record) -> bool
     ensures { result ≡ deferred v }
 {
-    v.kind == Some(Kind::Control)
+    v.has_kind(Kind::Control)
 }
 
 // Whether the link is chained, should a TD's stores come to L-1: no TRB of a request is chained to the next.
@@ -114,7 +114,7 @@ pub fn strays(e: Endpoint, records: &[u64]) -> bool
         return true;
     }
     let v = records::record_at(records, number);
-    v.state != Some(State::InFlight) || is_past(e, v) || !first_fits(e, v)
+    !v.has_state(State::InFlight) || is_past(e, v) || !first_fits(e, v)
 }
 
 // Row 1 of a call that is lent the records.

@@ -14,7 +14,7 @@ use records::{Kind, Record};
 fn is_mismatched(v: Record) -> bool
     ensures { result ≡ mismatched v }
 {
-    v.kind == Some(Kind::Isoch) && v.count != v.given
+    v.has_kind(Kind::Isoch) && v.count != v.given
 }
 
 fn says_yes(size: u64, incoming: bool) -> bool
@@ -27,7 +27,7 @@ fn says_yes(size: u64, incoming: bool) -> bool
 fn packets_told(v: Record) -> usize
     ensures { result ≡ packets_told v }
 {
-    if v.kind == Some(Kind::Isoch) {
+    if v.has_kind(Kind::Isoch) {
         v.given as usize
     } else {
         0

@@ -2,6 +2,7 @@
 ghost use Rattle.std.specs.Prelude.{◌≡◌};
 ghost use Rattle.console.specs.Serve.{serve_named, is_call, serve_calls};
 ghost use Rattle.console.specs.Serve.{serve_session, serve_alone, serve, is_step};
+ghost use Rattle.page.specs.Lent.{shown, loan};
 
 use dock::Endpoint;
 use lines::{Line, Reading};
@@ -21,7 +22,8 @@ fn serve_named(
     values: &[u64],
     page: &mut Page,
 ) -> Turn
-    ensures { (result, ring.new, finished.new, records.new, packets.new, page.new) ≡ serve_named e ring.old finished.old records.old packets.old line values.now page.old }
+    ensures leaves { (result, ring.new, finished.new, records.new, packets.new, shown page.new) ≡ serve_named e ring.old finished.old records.old packets.old line values.now (shown page.old) }
+    ensures same_bytes { loan page.new ≡ loan page.old }
 {
     let request = values::request_of(line.word, values);
     let lengths = values::lengths_of(line.word, values, line.count);
@@ -50,7 +52,8 @@ fn is_call(w: Word) -> bool
 
 #[tactic(auto, unfolding(crate::specs::Serve::serve_calls))]
 fn serve_calls(e: Endpoint, records: &mut [u64], w: Word, values: &[u64], page: &mut Page) -> Turn
-    ensures { (result, records.new, page.new) ≡ serve_calls e records.old w values.now page.old }
+    ensures leaves { (result, records.new, shown page.new) ≡ serve_calls e records.old w values.now (shown page.old) }
+    ensures same_bytes { loan page.new ≡ loan page.old }
 {
     match w {
         Word::Configure => calls::configured(e, values, page),
@@ -75,7 +78,8 @@ fn serve_session(
     values: &[u64],
     page: &mut Page,
 ) -> Turn
-    ensures { (result, ring.new, finished.new, records.new, packets.new, page.new) ≡ serve_session e ring.old finished.old records.old packets.old line values.now page.old }
+    ensures leaves { (result, ring.new, finished.new, records.new, packets.new, shown page.new) ≡ serve_session e ring.old finished.old records.old packets.old line values.now (shown page.old) }
+    ensures same_bytes { loan page.new ≡ loan page.old }
 {
     let first = value(values, 0);
     match line.word {
@@ -102,7 +106,8 @@ fn serve_alone(
     values: &[u64],
     page: &mut Page,
 ) -> Turn
-    ensures { (result, ring.new, finished.new, records.new, packets.new, page.new) ≡ serve_alone e ring.old finished.old records.old packets.old line values.now page.old }
+    ensures leaves { (result, ring.new, finished.new, records.new, packets.new, shown page.new) ≡ serve_alone e ring.old finished.old records.old packets.old line values.now (shown page.old) }
+    ensures same_bytes { loan page.new ≡ loan page.old }
 {
     match line.word {
         Word::Store => {
@@ -130,7 +135,8 @@ pub fn serve(
     values: &[u64],
     page: &mut Page,
 ) -> Turn
-    ensures { (result, ring.new, finished.new, records.new, packets.new, page.new) ≡ serve e ring.old finished.old records.old packets.old r values.now page.old }
+    ensures leaves { (result, ring.new, finished.new, records.new, packets.new, shown page.new) ≡ serve e ring.old finished.old records.old packets.old r values.now (shown page.old) }
+    ensures same_bytes { loan page.new ≡ loan page.old }
 {
     if values::is_bad(r) {
         return Turn { e, next: Next::Bad };

@@ -12,6 +12,7 @@ use lib.Dec.{eqb}
 use Rattle.base.specs.First.{pick, first}
 use Rattle.base.proofs.Compare.{same_or_not}
 use Rattle.dock.specs.declared.Refusal.{Refusal}
+use Rattle.dock.specs.declared.Refusal.TheVariants.{Other}
 use Rattle.dock.specs.Refusals.{number, refusal, done, verdict}
 
 -- Every number of the tests is a refusal's.
@@ -29,6 +30,27 @@ row_number [] all d = absurd (d refl)
 row_number (t ∷ ts) all d =
     let parts = (and-eq-true_iff (eqb (number (refusal t.1)) t.1) (rows ts)).0 all in
     one t.0 t.1 (first ts) (eqb-true _ _ parts.0) (λ later. row_number ts parts.1 later) d
+
+-- No number has `Other` for its refusal, whatever stands beside a test: it is one of the rows'.
+abbrev pub is_row : Refusal → Bool
+is_row (Other n) = false
+is_row r = true
+
+either_row : (b : Bool) (r s : Refusal) → is_row r ≡ true → is_row s ≡ true → is_row (pick b r s) ≡ true
+either_row true r s here later = here
+either_row false r s here later = later
+
+pub refusal_is_row : (n : ℕ) → is_row (refusal n) ≡ true
+refusal_is_row n =
+    either_row (eqb n 1) _ _ refl
+    (either_row (eqb n 2) _ _ refl
+    (either_row (eqb n 3) _ _ refl
+    (either_row (eqb n 4) _ _ refl
+    (either_row (eqb n 5) _ _ refl
+    (either_row (eqb n 6) _ _ refl
+    (either_row (eqb n 10) _ _ refl
+    (either_row (eqb n 11) _ _ refl
+    (either_row (eqb n 12) _ _ refl refl))))))))
 
 -- A verdict that refuses is of a number that is not 0, and gives its refusal;
 pub declined : (n : ℕ) {why : Refusal} → ◌≡◌ {A = Result ⊤ Refusal} (Err why) (verdict n) → (n ≡ 0 → ⊥) × (why ≡ refusal n)

@@ -24,12 +24,10 @@ use Rattle.ids.specs.Free.{id_at, free_in}
 use Rattle.ids.specs.Order.{after_id, after_n}
 use Rattle.ids.proofs.AnyLaws.{never_both, after_last, after_more}
 use Rattle.ids.proofs.SearchLaws.{answer_other, answer_first}
-use Rattle.std.specs.Prelude.{Option}
-use Rattle.records.specs.States.{state_in, state_is, in_flight, stopped}
+use Rattle.records.specs.States.{state_is, in_flight, stopped}
 use Rattle.records.specs.Records.{record_at, record_list, set_word}
 use Rattle.records.proofs.StateLaws.{by_state}
 use Rattle.records.specs.declared.Record.{Record}
-use Rattle.records.specs.declared.State.{State}
 use Rattle.records.proofs.RecordLaws.{id_is, record_put, record_other, set_length}
 use Rattle.dock.specs.declared.Account.{Account}
 use Rattle.dock.specs.RowOne.{flies}
@@ -61,7 +59,7 @@ pub part_same : (records after : List ℕ) (occupancy other : Occupancy) (r : �
 unfolding flight_part
 part_same records after occupancy other r b s c =
     ap (λ (h : Bool). pick (h && state_is (record_at after r).state in_flight) (record_at after r).count 0) b
-    ∙ ap₂ (λ (x : Option State) (y : ℕ). pick (held occupancy r && state_is x in_flight) y 0) s c
+    ∙ ap₂ (λ (x y : ℕ). pick (held occupancy r && state_is x in_flight) y 0) s c
 
 -- ---- words change that are no id, state, count or place
 
@@ -82,13 +80,13 @@ unfolding set_word record_at
 alike_set records r k value small a b p c = record {
   long = set_length records r k value;
   id = λ s. get_or-set_other records (record_words * r + k) (record_words * s) value 0 (λ e. a (omega arith));
-  state = λ s. ap state_in (get_or-set_other records (record_words * r + k) (record_words * s + 3) value 0 (λ e. b (omega arith)));
+  state = λ s. get_or-set_other records (record_words * r + k) (record_words * s + 3) value 0 (λ e. b (omega arith));
   count = λ s. get_or-set_other records (record_words * r + k) (record_words * s + 9) value 0 (λ e. c (omega arith));
   place = λ s. get_or-set_other records (record_words * r + k) (record_words * s + 8) value 0 (λ e. p (omega arith));
 }
 
 pub flies_alike : (records after : List ℕ) (occupancy : Occupancy) (r : ℕ) → Alike records after → flies after occupancy r ≡ flies records occupancy r
-flies_alike records after occupancy r k = ap (λ (x : Option State). held occupancy r && state_is x in_flight) (k.state r)
+flies_alike records after occupancy r k = ap (λ (x : ℕ). held occupancy r && state_is x in_flight) (k.state r)
 
 pub books_alike : (a : Account) (records after : List ℕ) → Books a records → Alike records after → Books a after
 unfolding flight_sum

@@ -14,9 +14,9 @@ use Rattle.base.proofs.Compare.{same_or_not}
 use Rattle.sizes.specs.Sizes.{record_count, record_words, longest, longest_control}
 use Rattle.mask.specs.declared.Occupancy.{Occupancy}
 use Rattle.ids.specs.Lookup.{find_in}
-use Rattle.records.specs.Kinds.{control, bulk, interrupt, isoch}
+use Rattle.records.specs.Kinds.{kind_number, control, bulk, interrupt, isoch}
 use Rattle.records.proofs.KindLaws.{kind_false}
-use Rattle.records.specs.States.{word_of_state, stopped}
+use Rattle.records.specs.States.{stopped}
 use Rattle.records.specs.Records.{state_word, cancelled_word, word_at, record_at, set_word}
 use Rattle.records.specs.declared.Record.{Record}
 use Rattle.records.proofs.RecordLaws.{word_kept}
@@ -85,7 +85,7 @@ retired_keeps zero occupancy outstanding records r = (refl, refl)
 retired_keeps (suc n) occupancy outstanding records r =
     let s = retired_below n occupancy outstanding records in
     let before = retired_keeps n occupancy outstanding records r in
-    let set = word_keeps s.1 n state_word (word_of_state stopped) (omega arith) (λ e. omega arith) (λ e. omega arith) r in
+    let set = word_keeps s.1 n state_word stopped (omega arith) (λ e. omega arith) (λ e. omega arith) r in
     picked (λ (x : ℕ × List ℕ). (word_at x.1 r 1 ≡ word_at records r 1) × (word_at x.1 r 6 ≡ word_at records r 6)) (flies s.1 occupancy n) _ _
     (λ t. (set.0 ∙ before.0, set.1 ∙ before.1)) (λ t. before)
 
@@ -116,7 +116,7 @@ reclaim_brief s id b =
 -- ---- a start
 
 asked : (what : What) (size : ℕ) (lengths : List ℕ) → too_long what size lengths ≡ false
-    → ((Some (kind_of what) ≡ isoch → ⊥) → size ≤ longest) × (Some (kind_of what) ≡ control → size ≤ longest_control)
+    → ((kind_number (kind_of what) ≡ isoch → ⊥) → size ≤ longest) × (kind_number (kind_of what) ≡ control → size ≤ longest_control)
 unfolding too_long
 asked (Control type request value index) size lengths t = let l = ltb-false longest_control size t in ((λ d. omega arith), (λ d. l))
 asked (Bulk incoming) size lengths t = ((λ d. ltb-false longest size t), (λ d. absurd (kind_false bulk control refl d)))

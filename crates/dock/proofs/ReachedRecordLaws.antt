@@ -14,8 +14,7 @@ use Rattle.mask.specs.declared.Occupancy.{Occupancy}
 use Rattle.sizes.specs.Sizes.{record_count, record_words}
 use Rattle.ids.specs.Lookup.{find_in}
 use Rattle.ids.proofs.AnyLaws.{never_both}
-use Rattle.records.specs.Kinds.{kind_in}
-use Rattle.records.specs.States.{word_of_state, stopped}
+use Rattle.records.specs.States.{stopped}
 use Rattle.records.specs.Records.{state_word, cancelled_word, is_set, word_at, record_at}
 use Rattle.records.specs.declared.Record.{Record}
 use Rattle.records.proofs.RecordLaws.{word_kept}
@@ -69,7 +68,7 @@ same_words : (records : List ℕ) (r : ℕ) (after : List ℕ) → Stays records
 unfolding record_at
 same_words records r after stays = record {
   id = stays 0 (omega arith) (λ e. omega arith) (λ e. omega arith);
-  kind = ap kind_in (stays 1 (omega arith) (λ e. omega arith) (λ e. omega arith));
+  kind = stays 1 (omega arith) (λ e. omega arith) (λ e. omega arith);
   incoming = ap is_set (stays 2 (omega arith) (λ e. omega arith) (λ e. omega arith));
   size = stays 6 (omega arith) (λ e. omega arith) (λ e. omega arith);
   place = stays 8 (omega arith) (λ e. omega arith) (λ e. omega arith);
@@ -89,7 +88,7 @@ retired_stays (suc n) occupancy outstanding records r k l a b =
     let s = retired_below n occupancy outstanding records in
     let before = retired_stays n occupancy outstanding records r k l a b in
     picked (λ (x : ℕ × List ℕ). word_at x.1 r k ≡ word_at records r k) (flies s.1 occupancy n) _ _
-    (λ t. word_kept s.1 n state_word (word_of_state stopped) r k (λ e. a (omega arith)) ∙ before) (λ t. before)
+    (λ t. word_kept s.1 n state_word stopped r k (λ e. a (omega arith)) ∙ before) (λ t. before)
 
 module _ (s : State) (r : ℕ) where
   abbrev v : Record

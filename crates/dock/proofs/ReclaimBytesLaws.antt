@@ -9,7 +9,7 @@ use mathlib.Core.Logic.{◌⊎◌, ⊎_elim}
 use mathlib.Core.Path.{◌≡◌, refl, ap, ◌∙◌}
 use native.Mathlib.Nat.{mod-eq_of_lt}
 use native.Mathlib.Omega.{arith}
-use borrow.Author.Tests.{eqb-true, eqb-false, eq-eqb, ne_eqb, not-false}
+use borrow.Author.Tests.{eqb-true, eqb-false, ne_eqb, not-false}
 use lib.Dec.{eqb, ltb}
 use lib.ListN.{length}
 use Rattle.base.specs.Fields.{flag}
@@ -23,7 +23,7 @@ use Rattle.ids.proofs.LookupLaws.{find_finds}
 use Rattle.ids.proofs.AnyLaws.{by_held}
 use Rattle.trb.specs.declared.Words.{Words}
 use Rattle.finished.specs.Finished.{finished_at}
-use Rattle.records.specs.Kinds.{kind_in, control, bulk, interrupt, isoch}
+use Rattle.records.specs.Kinds.{control, bulk, interrupt, isoch}
 use Rattle.records.proofs.KindLaws.{eq_kind, ne_kind, kinds_apart}
 use Rattle.records.specs.States.{in_flight}
 use Rattle.records.specs.Records.{recorded_word, word_at, record_at, set_word}
@@ -158,7 +158,7 @@ module _ (e : Endpoint) (finished records packets : List ℕ) (id r : ℕ) (h : 
     pub kind_kept : ((record_at result.1 r).kind ≡ v.kind) × ((record_at result.1 r).length ≡ v.length)
     unfolding record_at
     kind_kept = (
-      ap (λ (x : After Reclaimed × List ℕ × List ℕ). kind_in (word_at x.1 r 1)) is_control ∙ ap kind_in (word_kept records r recorded_word recorded r 1 (λ q. omega arith)),
+      ap (λ (x : After Reclaimed × List ℕ × List ℕ). word_at x.1 r 1) is_control ∙ word_kept records r recorded_word recorded r 1 (λ q. omega arith),
       ap (λ (x : After Reclaimed × List ℕ × List ℕ). word_at x.1 r 6) is_control ∙ word_kept records r recorded_word recorded r 6 (λ q. omega arith),
     )
 

@@ -16,7 +16,7 @@ use Rattle.mask.specs.declared.Occupancy.{Occupancy}
 use Rattle.sizes.specs.Sizes.{record_count, record_words, records_size}
 use Rattle.ids.specs.Free.{id_at}
 use Rattle.ids.proofs.AnyLaws.{true_or_false, never_both}
-use Rattle.records.specs.States.{state_in, word_of_state, in_flight, stopped}
+use Rattle.records.specs.States.{in_flight, stopped}
 use Rattle.records.proofs.StateLaws.{flying_not_stopped}
 use Rattle.records.specs.Records.{state_word, record_at, set_word}
 use Rattle.records.proofs.RecordLaws.{word_set, set_length}
@@ -40,21 +40,21 @@ sum_none (suc n) f h = omega (arith, sum_none n f (λ k l. h k (omega arith)), h
 -- ---- one record set to stopped
 
 module _ (records : List ℕ) (r : ℕ) where
-  stop_id : (q : ℕ) → id_at (set_word records r state_word (word_of_state stopped)) q ≡ id_at records q
+  stop_id : (q : ℕ) → id_at (set_word records r state_word stopped) q ≡ id_at records q
   unfolding set_word
-  stop_id q = get_or-set_other records (record_words * r + 3) (record_words * q) (word_of_state stopped) 0 (λ e. omega arith)
+  stop_id q = get_or-set_other records (record_words * r + 3) (record_words * q) stopped 0 (λ e. omega arith)
 
-  stop_count : (q : ℕ) → (record_at (set_word records r state_word (word_of_state stopped)) q).count ≡ (record_at records q).count
+  stop_count : (q : ℕ) → (record_at (set_word records r state_word stopped) q).count ≡ (record_at records q).count
   unfolding set_word record_at
-  stop_count q = get_or-set_other records (record_words * r + 3) (record_words * q + 9) (word_of_state stopped) 0 (λ e. omega arith)
+  stop_count q = get_or-set_other records (record_words * r + 3) (record_words * q + 9) stopped 0 (λ e. omega arith)
 
-  stop_other : (q : ℕ) → (q ≡ r → ⊥) → (record_at (set_word records r state_word (word_of_state stopped)) q).state ≡ (record_at records q).state
+  stop_other : (q : ℕ) → (q ≡ r → ⊥) → (record_at (set_word records r state_word stopped) q).state ≡ (record_at records q).state
   unfolding set_word record_at
-  stop_other q d = ap state_in (get_or-set_other records (record_words * r + 3) (record_words * q + 3) (word_of_state stopped) 0 (λ e. d (omega arith)))
+  stop_other q d = get_or-set_other records (record_words * r + 3) (record_words * q + 3) stopped 0 (λ e. d (omega arith))
 
-  stop_here : r < record_count → length records ≡ records_size → (record_at (set_word records r state_word (word_of_state stopped)) r).state ≡ stopped
+  stop_here : r < record_count → length records ≡ records_size → (record_at (set_word records r state_word stopped) r).state ≡ stopped
   unfolding record_at
-  stop_here l long = ap state_in (word_set records r state_word (word_of_state stopped) (omega arith))
+  stop_here l long = word_set records r state_word stopped (omega arith)
 
 -- ---- the records below n
 
@@ -81,18 +81,18 @@ module _ (occupancy : Occupancy) (outstanding : ℕ) (records : List ℕ) (sized
 
     -- The record flies: it is stopped, and its count leaves.
     flying_step : flies s.1 occupancy n ≡ true
-        → Retiring (suc n) occupancy outstanding records (s.0 - (record_at s.1 n).count, set_word s.1 n state_word (word_of_state stopped))
+        → Retiring (suc n) occupancy outstanding records (s.0 - (record_at s.1 n).count, set_word s.1 n state_word stopped)
     unfolding sum
     flying_step t =
         let f = (by_flies records occupancy n).so (sym same_flight ∙ t) in
         let part = part_flies records occupancy n f.0 f.1 in
         record {
-          long = set_length s.1 n state_word (word_of_state stopped) ∙ i.long;
+          long = set_length s.1 n state_word stopped ∙ i.long;
           id = λ r. stop_id s.1 n r ∙ i.id r;
           count = λ r. stop_count s.1 n r ∙ i.count r;
           ahead = λ r h. stop_other s.1 n r (λ e. omega arith) ∙ i.ahead r (omega arith);
           stops = λ r h g. ⊎_elim
-              (λ (e : r ≡ n). ap (λ (x : ℕ). (record_at (set_word s.1 n state_word (word_of_state stopped)) x).state) e ∙ stop_here s.1 n l (i.long ∙ sized))
+              (λ (e : r ≡ n). ap (λ (x : ℕ). (record_at (set_word s.1 n state_word stopped) x).state) e ∙ stop_here s.1 n l (i.long ∙ sized))
               (λ (e : r < n). stop_other s.1 n r (λ d. omega arith) ∙ i.stops r e g)
               (eq-or-lt_of_le (le_of_suc-le-suc h));
           others = λ r g. stop_other s.1 n r

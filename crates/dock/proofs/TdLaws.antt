@@ -4,9 +4,7 @@ use Prim.Native.Nat.{ℕ, ◌+◌}
 use mathlib.Core.Bool.{Bool, true, false}
 use mathlib.Core.List.{List}
 use mathlib.Core.Path.{◌≡◌, refl, sym, ap, ap₂, ◌∙◌}
-use native.Mathlib.Omega.{arith}
-use borrow.Author.Tests.{eq-eqb}
-use Rattle.base.proofs.Decide.{Decides, by_eqb, if_not}
+use Rattle.base.proofs.Decide.{Decides, if_not}
 use Rattle.ring.specs.Ring.{onward, around, link_trb}
 use Rattle.ring.specs.declared.Position.{Position}
 use Rattle.records.specs.Kinds.{control, isoch}

@@ -2,7 +2,7 @@
 use Rattle.std.specs.Prelude.{ℕ, eqb, Result, Ok, Err, ⊤}
 use Rattle.base.specs.First.{pick}
 use Rattle.dock.specs.declared.Refusal.{Refusal}
-use Rattle.dock.specs.declared.Refusal.TheVariants.{Unfit, QueueFull, TooLong, RecordsFull, OutOfReach, NotInFlight, NotUnderWay, ForeignEvent, Busy, OutsideLimits}
+use Rattle.dock.specs.declared.Refusal.TheVariants.{Unfit, QueueFull, TooLong, RecordsFull, OutOfReach, NotInFlight, NotUnderWay, ForeignEvent, Busy, OutsideLimits, Other}
 
 -- The number of a refusal.
 abbrev pub number : Refusal → ℕ
@@ -16,6 +16,7 @@ number NotUnderWay = 10
 number ForeignEvent = 11
 number Busy = 12
 number OutsideLimits = 13
+number (Other n) = n
 
 -- The refusal with a number. The tests of the calls have no other numbers than these (`row_number` of proofs/NumberLaws).
 abbrev pub refusal : ℕ → Refusal

@@ -1,7 +1,8 @@
 -- A request: what it asks for, how many TRBs it takes, and the record that is kept of it.
-use Rattle.std.specs.Prelude.{ℕ, ◌+◌, ◌*◌, ◌^◌, max, Bool, false, Some, eqb}
+use Rattle.std.specs.Prelude.{ℕ, ◌+◌, ◌*◌, ◌^◌, max, Bool, false, eqb}
 use Rattle.base.specs.First.{pick}
 use Rattle.base.specs.Fields.{bits}
+use Rattle.records.specs.Kinds.{kind_number}
 use Rattle.records.specs.States.{in_flight}
 use Rattle.records.specs.declared.Kind.{Kind}
 use Rattle.records.specs.declared.Kind.TheVariants as kinds
@@ -61,7 +62,7 @@ abbrev pub record_for : Request → ℕ → ℕ → ℕ → Record
 record_for request count id place =
     record {
       id = id;
-      kind = Some (kind_of request.what);
+      kind = kind_number (kind_of request.what);
       incoming = incoming_of request.what;
       state = in_flight;
       cancelled = false;

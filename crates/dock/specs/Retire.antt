@@ -3,7 +3,7 @@ use Rattle.std.specs.Prelude.{ℕ, zero, suc, ◌-◌, Bool, not, List, [], ◌�
 use Rattle.base.specs.First.{pick, first}
 use Rattle.mask.specs.declared.Occupancy.{Occupancy}
 use Rattle.sizes.specs.Sizes.{record_count}
-use Rattle.records.specs.States.{word_of_state, stopped}
+use Rattle.records.specs.States.{stopped}
 use Rattle.records.specs.Records.{state_word, record_at, set_word}
 use Rattle.dock.specs.declared.After.{After}
 use Rattle.dock.specs.Refusals.{refusal, done}
@@ -23,7 +23,7 @@ unfoldable pub retired_below : ℕ → Occupancy → ℕ → List ℕ → ℕ ×
 retired_below zero occupancy outstanding records = (outstanding, records)
 retired_below (suc r) occupancy outstanding records =
     let s = retired_below r occupancy outstanding records in
-    pick (flies s.1 occupancy r) (s.0 - (record_at s.1 r).count, set_word s.1 r state_word (word_of_state stopped)) s
+    pick (flies s.1 occupancy r) (s.0 - (record_at s.1 r).count, set_word s.1 r state_word stopped) s
 
 unfoldable pub retire : Endpoint → List ℕ → After ⊤ × List ℕ
 retire e records =

@@ -100,6 +100,7 @@ pub struct Request {
 }
 
 // Why a call is refused: document 01's "When the dock says no". `number` has its number there. (7 to 9, and 10 of a reclaim, say what a request came to.)
+// `Other` is any other number: no call is refused with it, and what tells, saves or writes an answer takes it as it is.
 #[derive(Clone, Copy, PartialEq, Eq)]
 pub enum Refusal {
     Unfit,
@@ -112,6 +113,7 @@ pub enum Refusal {
     ForeignEvent,
     Busy,
     OutsideLimits,
+    Other(u32),
 }
 
 impl Refusal {
@@ -129,6 +131,7 @@ impl Refusal {
             Refusal::ForeignEvent => 11,
             Refusal::Busy => 12,
             Refusal::OutsideLimits => 13,
+            Refusal::Other(number) => number,
         }
     }
 }

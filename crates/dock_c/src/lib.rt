@@ -13,11 +13,10 @@ ghost use Rattle.std.specs.Prelude.{◌≡◌};
 ghost use Rattle.dock_c.specs.Exported.{shape_given, identity_given, made, configured, started, stored_one, submitted, handed_over, reclaimed, cancelled, retired, reset_begun, reset_ended, stopped, resumed, pointed};
 
 use dock::{Identity, Refusal, Shape};
-use loaded::load;
+use loaded::parse;
 use saved::settle::{settle, settle_told, unmade};
-use told::answer;
 use told::answer::tell;
-use told::request::request_of;
+use told::{answer, request};
 use trb::Words;
 
 // ---- building
@@ -54,7 +53,7 @@ pub extern "C" fn thn_make(
 pub extern "C" fn thn_configure(state: &mut [u64], packet: u16, burst: u8, interval: u8) -> u32
     ensures { (result, state.new) ≡ configured state.old packet burst interval }
 {
-    let Ok(endpoint) = load(state) else {
+    let Ok(endpoint) = parse(state) else {
         return Refusal::Unfit.number();
     };
     let Some(state) = state.as_mut_array() else {
@@ -77,10 +76,10 @@ pub extern "C" fn thn_start(
 ) -> u32
     ensures { (result, state.new, records.new, packets.new) ≡ started state.old records.old packets.old request.now lengths.now }
 {
-    let Ok(endpoint) = load(state) else {
+    let Ok(endpoint) = parse(state) else {
         return Refusal::Unfit.number();
     };
-    let Ok(request) = request_of(request) else {
+    let Ok(request) = request::parse(request) else {
         return Refusal::Unfit.number();
     };
     let Some(state) = state.as_mut_array() else {
@@ -104,7 +103,7 @@ pub extern "C" fn thn_store(
 ) -> u32
     ensures { (result, state.new, answer.new, ring.new, finished.new) ≡ stored_one state.old answer.old ring.old finished.old records.now packets.now }
 {
-    let Ok(endpoint) = load(state) else {
+    let Ok(endpoint) = parse(state) else {
         return Refusal::Unfit.number();
     };
     let Some(state) = state.as_mut_array() else {
@@ -131,10 +130,10 @@ pub extern "C" fn thn_submit(
 ) -> u32
     ensures { (result, state.new, answer.new, ring.new, finished.new, records.new, packets.new) ≡ submitted state.old answer.old ring.old finished.old records.old packets.old request.now lengths.now }
 {
-    let Ok(endpoint) = load(state) else {
+    let Ok(endpoint) = parse(state) else {
         return Refusal::Unfit.number();
     };
-    let Ok(request) = request_of(request) else {
+    let Ok(request) = request::parse(request) else {
         return Refusal::Unfit.number();
     };
     let Some(state) = state.as_mut_array() else {
@@ -164,7 +163,7 @@ pub extern "C" fn thn_hand_over(
 ) -> u32
     ensures { (result, answer.new, finished.new) ≡ handed_over state.now answer.old finished.old w0 w1 w2 w3 }
 {
-    let Ok(endpoint) = load(state) else {
+    let Ok(endpoint) = parse(state) else {
         return Refusal::Unfit.number();
     };
     let Some(answer) = answer.as_mut_array() else {
@@ -187,7 +186,7 @@ pub extern "C" fn thn_reclaim(
 ) -> u32
     ensures { (result, state.new, answer.new, records.new, packets.new) ≡ reclaimed state.old answer.old finished.now records.old packets.old id }
 {
-    let Ok(endpoint) = load(state) else {
+    let Ok(endpoint) = parse(state) else {
         return Refusal::Unfit.number();
     };
     let Some(state) = state.as_mut_array() else {
@@ -205,7 +204,7 @@ pub extern "C" fn thn_reclaim(
 pub extern "C" fn thn_cancel(state: &[u64], records: &mut [u64], id: u64) -> u32
     ensures { (result, records.new) ≡ cancelled state.now records.old id }
 {
-    let Ok(endpoint) = load(state) else {
+    let Ok(endpoint) = parse(state) else {
         return Refusal::Unfit.number();
     };
     answer::outcome(completion::cancel_request(endpoint, records, id))
@@ -218,7 +217,7 @@ pub extern "C" fn thn_cancel(state: &[u64], records: &mut [u64], id: u64) -> u32
 pub extern "C" fn thn_retire(state: &mut [u64], records: &mut [u64]) -> u32
     ensures { (result, state.new, records.new) ≡ retired state.old records.old }
 {
-    let Ok(endpoint) = load(state) else {
+    let Ok(endpoint) = parse(state) else {
         return Refusal::Unfit.number();
     };
     let Some(state) = state.as_mut_array() else {
@@ -232,7 +231,7 @@ pub extern "C" fn thn_retire(state: &mut [u64], records: &mut [u64]) -> u32
 pub extern "C" fn thn_begin_reset(state: &mut [u64], answer: &mut [u64], records: &[u64]) -> u32
     ensures { (result, state.new, answer.new) ≡ reset_begun state.old answer.old records.now }
 {
-    let Ok(endpoint) = load(state) else {
+    let Ok(endpoint) = parse(state) else {
         return Refusal::Unfit.number();
     };
     let Some(state) = state.as_mut_array() else {
@@ -251,7 +250,7 @@ pub extern "C" fn thn_begin_reset(state: &mut [u64], answer: &mut [u64], records
 pub extern "C" fn thn_end_reset(state: &mut [u64], worked: u32) -> u32
     ensures { (result, state.new) ≡ reset_ended state.old worked }
 {
-    let Ok(endpoint) = load(state) else {
+    let Ok(endpoint) = parse(state) else {
         return Refusal::Unfit.number();
     };
     let Some(state) = state.as_mut_array() else {
@@ -265,7 +264,7 @@ pub extern "C" fn thn_end_reset(state: &mut [u64], worked: u32) -> u32
 pub extern "C" fn thn_stop(state: &[u64], answer: &mut [u64]) -> u32
     ensures { (result, answer.new) ≡ stopped state.now answer.old }
 {
-    let Ok(endpoint) = load(state) else {
+    let Ok(endpoint) = parse(state) else {
         return Refusal::Unfit.number();
     };
     let Some(answer) = answer.as_mut_array() else {
@@ -279,7 +278,7 @@ pub extern "C" fn thn_stop(state: &[u64], answer: &mut [u64]) -> u32
 pub extern "C" fn thn_resume(state: &[u64], answer: &mut [u64]) -> u32
     ensures { (result, answer.new) ≡ resumed state.now answer.old }
 {
-    let Ok(endpoint) = load(state) else {
+    let Ok(endpoint) = parse(state) else {
         return Refusal::Unfit.number();
     };
     let Some(answer) = answer.as_mut_array() else {
@@ -293,7 +292,7 @@ pub extern "C" fn thn_resume(state: &[u64], answer: &mut [u64]) -> u32
 pub extern "C" fn thn_pointer(state: &[u64], answer: &mut [u64]) -> u32
     ensures { (result, answer.new) ≡ pointed state.now answer.old }
 {
-    let Ok(endpoint) = load(state) else {
+    let Ok(endpoint) = parse(state) else {
         return Refusal::Unfit.number();
     };
     let Some(answer) = answer.as_mut_array() else {

@@ -29,7 +29,12 @@ read_all bs r values = let f = feed_all bs r values in finish f.0 f.1
 -- A line that is good so far: its word is under way, or known.
 abbrev st : Bool → Option Word → Option Word → ℕ → ℕ → Option ℕ → ℕ → Reading
 st full before word letters form value count =
-    record { full = full; good = true; before = before; letters = letters; word = word; form = form; value = value; count = count }
+    record { full = full; good = true; naming = is_none word; before = before; letters = letters; word = word; form = form; value = value; count = count }
+
+-- One whose field, a word or a number, has ended.
+abbrev ended : Bool → Bool → Option Word → Word → ℕ → ℕ → Option ℕ → ℕ → Reading
+ended naming full before w letters form value count =
+    record { full = full; good = true; naming = naming; before = before; letters = letters; word = Some w; form = form; value = value; count = count }
 
 -- What follows a word, or a number, that has been read.
 abbrev after_word : Bool → Option Word → ℕ → List ℕ → Option ℕ → List (List ℕ) → Said
@@ -69,7 +74,7 @@ bad_stays (b ∷ bs) r values e =
     step : Bool → Reading × List ℕ
     step x =
         let c = close r values in
-        pick x (r, values) (pick (eqb b 9) (opened c.0, c.1) (pick (is_none r.word) (letter r b, values) (digit r b, values)))
+        pick x (r, values) (pick (eqb b 9) (opened c.0, c.1) (pick r.naming (letter r b, values) (digit r b, values)))
 
 -- ---- the end of the line
 
@@ -115,14 +120,14 @@ Reads bs =
     → outcome (read_all bs (st full before word letters form value count) values) ≡ rest full before word letters form value count values bs
 
 -- Behind a tab: the form of the fields to come decides.
-tab_opens : (bs : List ℕ) → Reads bs → (full : Bool) (before : Option Word) (w : Word) (letters form : ℕ) (value : Option ℕ) (count : ℕ) (values : List ℕ) (z m : Bool)
+tab_opens : (bs : List ℕ) → Reads bs → (naming full : Bool) (before : Option Word) (w : Word) (letters form : ℕ) (value : Option ℕ) (count : ℕ) (values : List ℕ) (z m : Bool)
     → eqb form 0 ≡ z → eqb form name ≡ m
-    → outcome (read_all bs (opened (st full before (Some w) letters form value count)) values) ≡ follow full before w form count values (head bs ∷ tail bs)
+    → outcome (read_all bs (opened (ended naming full before w letters form value count)) values) ≡ follow full before w form count values (head bs ∷ tail bs)
 unfolding opened follow
-tab_opens bs more full before w letters form value count values true m ez em =
-    rw ez (bad_stays bs (bad (st full before (Some w) letters form value count)) values refl)
-tab_opens bs more full before w letters form value count values false true ez em = rw (ez, em) (more full (Some w) None 0 0 value count values)
-tab_opens bs more full before w letters form value count values false false ez em =
+tab_opens bs more naming full before w letters form value count values true m ez em =
+    rw ez (bad_stays bs (bad (ended naming full before w letters form value count)) values refl)
+tab_opens bs more naming full before w letters form value count values false true ez em = rw (ez, em) (more full (Some w) None 0 0 value count values)
+tab_opens bs more naming full before w letters form value count values false false ez em =
     rw (ez, em, begun) (more full before (Some w) letters form None count values)
 
 tab_known : (bs : List ℕ) → Reads bs → (full : Bool) (before : Option Word) (letters form : ℕ) (value : Option ℕ) (count : ℕ) (values : List ℕ) (w : Word) (o : Option ℕ)
@@ -133,7 +138,7 @@ unfolding close_word opened
 tab_known bs more full before letters form value count values w None ew eo =
     rw (ew, eo) (bad_stays bs (bad (st full before None letters form value count)) values refl)
 tab_known bs more full before letters form value count values w (Some f) ew eo =
-    rw (ew, eo) (tab_opens bs more full before w letters f value count values (eqb f 0) (eqb f name) refl refl)
+    rw (ew, eo) (tab_opens bs more true full before w letters f value count values (eqb f 0) (eqb f name) refl refl)
 
 tab_word : (bs : List ℕ) → Reads bs → (full : Bool) (before : Option Word) (letters form : ℕ) (value : Option ℕ) (count : ℕ) (values : List ℕ) (o : Option Word)
     → word_of letters ≡ o
@@ -150,7 +155,7 @@ tab_number : (bs : List ℕ) → Reads bs → (full : Bool) (before : Option Wor
     ≡ after_number full before w form count values value (head bs ∷ tail bs)
 unfolding close_number opened
 tab_number bs more full before w letters form (Some value) count values =
-    tab_opens bs more full before w letters (rest_of form) (Some value) (keep count value values).0 (keep count value values).1 (eqb (rest_of form) 0) (eqb (rest_of form) name) refl refl
+    tab_opens bs more false full before w letters (rest_of form) (Some value) (keep count value values).0 (keep count value values).1 (eqb (rest_of form) 0) (eqb (rest_of form) name) refl refl
 tab_number bs more full before w letters form None count values = bad_stays bs (bad (st full before (Some w) letters form None count)) values refl
 
 -- ---- a letter, a digit

@@ -5,41 +5,42 @@ use Rattle.lines.specs.declared.Line.{Line}
 use Rattle.lines.specs.declared.Reading.{Reading}
 use Rattle.lines.specs.declared.Scanned.{Scanned}
 use Rattle.words.specs.declared.Word.{Word}
-use Rattle.words.specs.Words.{name, counts, word_of, form_of, base_of, most_of, rest_of}
+use Rattle.words.specs.Words.{name, counts, word_of, of_letters, form_of, base_of, most_of, rest_of}
 use Rattle.digits.specs.Digits.{digit_of, grown_by}
 
 abbrev pub start : Bool → Reading
 start full =
-    record { full = full; good = true; before = None; letters = 0; word = None; form = 0; value = None; count = 0 }
+    record { full = full; good = true; naming = true; before = None; letters = 0; word = None; form = 0; value = None; count = 0 }
 
--- What a byte changes: the line is bad; the letters grow; the number grows; the word and its form are known; a number is kept; a word or a number begins.
+-- What a byte changes: the line is bad; the letters grow, and the word goes on; the number grows; the word and its form are known; a number is kept; a
+-- word or a number begins.
 abbrev pub bad : Reading → Reading
 bad r =
-    record { full = r.full; good = false; before = r.before; letters = r.letters; word = r.word; form = r.form; value = r.value; count = r.count }
+    record { full = r.full; good = false; naming = r.naming; before = r.before; letters = r.letters; word = r.word; form = r.form; value = r.value; count = r.count }
 
 abbrev pub with_letters : Reading → ℕ → Reading
 with_letters r n =
-    record { full = r.full; good = r.good; before = r.before; letters = n; word = r.word; form = r.form; value = r.value; count = r.count }
+    record { full = r.full; good = r.good; naming = r.naming; before = r.before; letters = n; word = None; form = r.form; value = r.value; count = r.count }
 
 abbrev pub with_value : Reading → ℕ → Reading
 with_value r v =
-    record { full = r.full; good = r.good; before = r.before; letters = r.letters; word = r.word; form = r.form; value = Some v; count = r.count }
+    record { full = r.full; good = r.good; naming = r.naming; before = r.before; letters = r.letters; word = r.word; form = r.form; value = Some v; count = r.count }
 
 abbrev pub with_word : Reading → Word → ℕ → Reading
 with_word r w f =
-    record { full = r.full; good = r.good; before = r.before; letters = r.letters; word = Some w; form = f; value = r.value; count = r.count }
+    record { full = r.full; good = r.good; naming = r.naming; before = r.before; letters = r.letters; word = Some w; form = f; value = r.value; count = r.count }
 
 abbrev pub with_count : Reading → ℕ → ℕ → Reading
 with_count r n f =
-    record { full = r.full; good = r.good; before = r.before; letters = r.letters; word = r.word; form = f; value = r.value; count = n }
+    record { full = r.full; good = r.good; naming = r.naming; before = r.before; letters = r.letters; word = r.word; form = f; value = r.value; count = n }
 
 abbrev pub another_word : Reading → Reading
 another_word r =
-    record { full = r.full; good = r.good; before = r.word; letters = 0; word = None; form = 0; value = r.value; count = r.count }
+    record { full = r.full; good = r.good; naming = true; before = r.word; letters = 0; word = None; form = 0; value = r.value; count = r.count }
 
 abbrev pub another_number : Reading → Reading
 another_number r =
-    record { full = r.full; good = r.good; before = r.before; letters = r.letters; word = r.word; form = r.form; value = None; count = r.count }
+    record { full = r.full; good = r.good; naming = false; before = r.before; letters = r.letters; word = r.word; form = r.form; value = None; count = r.count }
 
 -- ---- a byte
 
@@ -87,8 +88,9 @@ with_kept r values (Some v) = let k = keep r.count v values in (with_count r k.0
 unfoldable pub close_number : Reading → List ℕ → Reading × List ℕ
 close_number r values = with_kept r values r.value
 
+-- A word ends where the field is one, or where none has ended yet; else a number.
 unfoldable pub close : Reading → List ℕ → Reading × List ℕ
-close r values = pick (is_none r.word) (close_word r, values) (close_number r values)
+close r values = pick (r.naming || is_none r.word) (close_word r, values) (close_number r values)
 
 -- Behind a tab another field begins: a word, a number, or one that the line's word does not take.
 unfoldable pub opened : Reading → Reading
@@ -104,7 +106,7 @@ feed r values b =
     let c = close r values in
     pick (not r.good) (r, values)
     (pick (eqb b 9) (opened c.0, c.1)
-    (pick (is_none r.word) (letter r b, values) (digit r b, values)))
+    (pick r.naming (letter r b, values) (digit r b, values)))
 
 -- Every field that the word takes has come.
 unfoldable pub complete : ℕ → Bool
@@ -115,13 +117,12 @@ finish r values =
     let c = close r values in
     pick (not r.good) (r, values) (pick (complete c.0.form) c (bad c.0, c.1))
 
--- What the line says: nothing where it is bad.
-abbrev pub worded : Reading → Option Word → Option Line
-worded r None = None
-worded r (Some w) = Some (record { before = r.before; word = w; count = r.count })
+-- What the line says so far: nothing where it is bad. A word that has not ended is what its letters make so far.
+abbrev pub word_so_far : Reading → Word
+word_so_far r = unwrap_or r.word (of_letters r.letters)
 
 unfoldable pub line_of : Reading → Option Line
-line_of r = pick r.good (worded r r.word) None
+line_of r = pick r.good (Some (record { before = r.before; word = word_so_far r; count = r.count })) None
 
 -- ---- many bytes
 

@@ -9,13 +9,14 @@ ghost use Rattle.lines.specs.Reader.{start, bad, letter, digit, keep, close_word
 
 use words::Word;
 
-// What is known of a line between two of its bytes: whether it may have a drive's words; whether all could be read so far; the word before its word;
-// the number that the letters of its word make so far, and the word, once it has ended; the form of the fields still to come, that under way first; the
-// number under way, once it has a digit; and how many numbers stand.
+// What is known of a line between two of its bytes: whether it may have a drive's words; whether all could be read so far; whether the field under way
+// is a word; the word before the line's word; the number that the letters of its word make so far, and the word, once it has ended; the form of the fields
+// still to come, that under way first; the number under way, once it has a digit; and how many numbers stand.
 #[derive(Clone, Copy)]
 pub struct Reading {
     pub full: bool,
     pub good: bool,
+    pub naming: bool,
     pub before: Option<Word>,
     pub letters: u64,
     pub word: Option<Word>,
@@ -24,7 +25,7 @@ pub struct Reading {
     pub count: usize,
 }
 
-// What a line says that was read to its end: the word before its word, where it has two, the word, and how many numbers stand.
+// What a line says: the word before its word, where it has two, the word, and how many numbers stand.
 #[derive(Clone, Copy)]
 pub struct Line {
     pub before: Option<Word>,
@@ -47,6 +48,7 @@ pub fn start(full: bool) -> Reading
     Reading {
         full,
         good: true,
+        naming: true,
         before: None,
         letters: 0,
         word: None,
@@ -57,7 +59,7 @@ pub fn start(full: bool) -> Reading
 }
 
 impl Reading {
-    // What the line says; nothing where it is bad.
+    // What the line says so far; nothing where it is bad. A word that has not ended is what its letters make so far.
     #[tactic(auto, unfolding(crate::specs::Reader::line_of))]
     pub fn line(self) -> Option<Line>
         ensures { result ≡ line_of self }
@@ -65,7 +67,10 @@ impl Reading {
         if !self.good {
             return None;
         }
-        let word = self.word?;
+        let word = match self.word {
+            Some(word) => word,
+            None => Word::of_letters(self.letters),
+        };
         Some(Line {
             before: self.before,
             word,
@@ -83,7 +88,7 @@ impl Reading {
         }
     }
 
-    // A letter of a word.
+    // A letter of a word: one that had ended goes on.
     #[tactic(auto, unfolding(crate::specs::Reader::letter, crate::specs::Reader::grows))]
     fn letter(self, b: u8) -> Reading
         ensures { result ≡ letter self b }
@@ -91,6 +96,7 @@ impl Reading {
         match b {
             b'a'..=b'z' if self.letters < 0x80_0000_0000_0000 => Reading {
                 letters: self.letters * 32 + u64::from(b - b'a' + 1),
+                word: None,
                 ..self
             },
             _ => self.bad(),
@@ -147,14 +153,15 @@ impl Reading {
         }
     }
 
-    // A field ends.
+    // A field ends: a word where it is one, or where no word has ended yet. Behind a word's end the field is a word still, until another begins.
     #[tactic(auto, unfolding(crate::specs::Reader::close))]
     fn close(self, values: &mut [u64]) -> Reading
         ensures { (result, values.new) ≡ close self values.old }
     {
-        match self.word {
-            None => self.close_word(),
-            Some(_) => self.close_number(values),
+        if self.naming || self.word.is_none() {
+            self.close_word()
+        } else {
+            self.close_number(values)
         }
     }
 
@@ -169,6 +176,7 @@ impl Reading {
         match self.form {
             0 => self.bad(),
             words::NAME => Reading {
+                naming: true,
                 before: self.word,
                 letters: 0,
                 word: None,
@@ -176,6 +184,7 @@ impl Reading {
                 ..self
             },
             _ => Reading {
+                naming: false,
                 value: None,
                 ..self
             },
@@ -206,10 +215,7 @@ pub fn feed(r: Reading, values: &mut [u64], b: u8) -> Reading
     if b == b'\t' {
         return r.close(values).next_field();
     }
-    match r.word {
-        None => r.letter(b),
-        Some(_) => r.digit(b),
-    }
+    if r.naming { r.letter(b) } else { r.digit(b) }
 }
 
 #[tactic(auto, unfolding(crate::specs::Reader::complete))]

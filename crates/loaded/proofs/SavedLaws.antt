@@ -1,5 +1,6 @@
 -- An endpoint that is saved is loaded as it was, and words that came from a save are saved as they were; what is loaded from words of an endpoint has
 -- its fields as narrow as their types, and what is saved of such an endpoint are words of one. Assumes nothing.
+use Rattle.std.specs.Prelude.{Ok}
 use Prim.Native.Nat.{ℕ, ◌+◌, ◌<◌, ◌^◌}
 use mathlib.Core.Bool.{Bool, true, false}
 use mathlib.Core.List.{List}
@@ -9,7 +10,7 @@ use Rattle.base.specs.First.{pick}
 use Rattle.base.proofs.Decide.{Decides, by_ltb, by_eqb, both, reworded, if_so}
 use Rattle.records.proofs.RecordLaws.{flag_set}
 use Rattle.dock.specs.declared.Endpoint.{Endpoint}
-use Rattle.loaded.specs.State.{identity_from, periodic_from, Narrow, state_words, is_state, Fitting, load, save, moves, kept}
+use Rattle.loaded.specs.State.{identity_from, periodic_from, Narrow, state_words, is_state, parsed, Fitting, load, save, moves, kept}
 
 -- The test of the words decides its facts.
 pub by_state : (w : List ℕ) → Decides (is_state w) (Fitting w)
@@ -41,6 +42,11 @@ by_state w =
     back : Fitting w → Facts
     back f = ((f.size, (f.slot, f.dci)), (((f.packet, f.burst), f.interval), f.frame))
 
+-- Words that fit are parsed as what they say.
+pub fitting_parsed : (w : List ℕ) → Fitting w → parsed w ≡ Ok (load w)
+unfolding parsed
+fitting_parsed w f = rw (if_so (by_state w) f) refl
+
 -- What is loaded from them is narrow.
 pub load_narrow : (w : List ℕ) → is_state w ≡ true → Narrow (load w)
 unfolding load
@@ -59,20 +65,21 @@ pub save_length : (e : Endpoint) → length (save e) ≡ state_words
 unfolding save
 save_length e = refl
 
--- The words of a narrow endpoint are an endpoint's.
-pub save_state : (e : Endpoint) → Narrow e → is_state (save e) ≡ true
+-- The words of a narrow endpoint fit, and are an endpoint's.
+pub save_fits : (e : Endpoint) → Narrow e → Fitting (save e)
 unfolding save
-save_state e n =
-    if_so (by_state (save e))
-    (record {
-      size = refl;
-      slot = n.slot;
-      dci = n.dci;
-      packet = n.packet;
-      burst = n.burst;
-      interval = n.interval;
-      frame = n.frame;
-    })
+save_fits e n = record {
+  size = refl;
+  slot = n.slot;
+  dci = n.dci;
+  packet = n.packet;
+  burst = n.burst;
+  interval = n.interval;
+  frame = n.frame;
+}
+
+pub save_state : (e : Endpoint) → Narrow e → is_state (save e) ≡ true
+save_state e n = if_so (by_state (save e)) (save_fits e n)
 
 -- The words after an answer say the endpoint afterwards, where an answer that does not move them leaves the endpoint;
 pub kept_says : (number : ℕ) (w : List ℕ) (e : Endpoint) → (moves number ≡ false → e ≡ load w) → load (kept number w e) ≡ e

@@ -8,7 +8,7 @@
 ghost use Rattle.std.specs.Prelude.{◌≡◌, Ok, Err};
 ghost use Rattle.dock.specs.declared.Refusal.TheVariants.{Unfit};
 ghost use Rattle.base.specs.First.{pick};
-ghost use Rattle.loaded.specs.State.{identity_fits, periodic_fits, is_state, parsed, position_at, shape_at, identity_at, periodic_at, account_at, flags_at, work_at};
+ghost use Rattle.loaded.specs.State.{identity_fits, periodic_fits, is_state, Fitting, load, parsed, position_at, shape_at, identity_at, periodic_at, account_at, flags_at, work_at};
 
 use dock::{Account, Endpoint, Flags, Identity, Periodic, Refusal, Shape, Work};
 use mask::Occupancy;
@@ -111,7 +111,7 @@ fn work(words: &[u64; STATE_WORDS]) -> Work
 // Inlined, since each exported call begins with it: called, it writes and reads the endpoint once more in memory, some 20 ns.
 #[inline(always)]
 #[tactic(auto, unfolding(crate::specs::State::is_state, crate::specs::State::load, crate::specs::State::parsed))]
-pub fn load(words: &[u64]) -> Result<Endpoint, Refusal>
+pub fn parse(words: &[u64]) -> Result<Endpoint, Refusal>
     ensures { result ≡ parsed words.now }
 {
     let words = words.as_array().ok_or(Refusal::Unfit)?;
@@ -126,10 +126,25 @@ pub fn load(words: &[u64]) -> Result<Endpoint, Refusal>
     })
 }
 
-// Are they the words of an endpoint?
-#[tactic(auto, unfolding(crate::specs::State::parsed))]
+// The endpoint that the words say. Words that are none of an endpoint are the caller's to refuse.
+#[tactic(auto, using(crate::proofs::SavedLaws::fitting_parsed))]
+pub fn load(words: &[u64]) -> Endpoint
+    requires { Fitting words.now }
+    ensures { result ≡ load words.now }
+{
+    parse(words).unwrap()
+}
+
+// Are they the words of an endpoint: as many as it has, and each fits its field?
+#[tactic(auto, unfolding(crate::specs::State::is_state))]
 pub fn is_state(words: &[u64]) -> bool
     ensures { result ≡ is_state words.now }
 {
-    load(words).is_ok()
+    words.len() == STATE_WORDS
+        && u8::try_from(words[IDENTITY]).is_ok()
+        && u8::try_from(words[IDENTITY + 1]).is_ok()
+        && u16::try_from(words[PERIODIC]).is_ok()
+        && u8::try_from(words[PERIODIC + 1]).is_ok()
+        && u8::try_from(words[PERIODIC + 2]).is_ok()
+        && u16::try_from(words[PERIODIC + 3]).is_ok()
 }

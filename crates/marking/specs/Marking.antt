@@ -9,7 +9,7 @@ use Rattle.dock.specs.Reclaim.{code_of, remaining_of, counted}
 use Rattle.dock.specs.Worth.{Worth, bytes, refused, worth}
 use Rattle.marking.specs.declared.Block.{Block}
 use Rattle.marking.specs.declared.Ended.{Ended}
-use Rattle.marking.specs.declared.Ended.TheVariants.{Open, Refused, Found, Unfit}
+use Rattle.marking.specs.declared.Ended.TheVariants.{Open, Refused, Found, Unfit, Other}
 use Rattle.marking.specs.declared.Standing.{Standing}
 use Rattle.marking.specs.declared.Turned.{Turned}
 
@@ -25,6 +25,7 @@ is_found Open = false
 is_found (Refused code) = false
 is_found (Found code) = true
 is_found Unfit = false
+is_found (Other number code) = false
 
 -- The block lies in the table of packets, and its places are slots 0 to L-2 of the finished table.
 unfoldable pub fitting : ℕ → ℕ → Block → Bool

@@ -5,7 +5,7 @@ use Rattle.packets.specs.Packets.{packet_at, put_packet}
 use Rattle.packets.specs.declared.Packet.{Packet}
 use Rattle.dock.specs.Reclaim.{Swept, unfinished, fatal, found}
 use Rattle.marking.specs.declared.Ended.{Ended}
-use Rattle.marking.specs.declared.Ended.TheVariants.{Open, Refused, Found, Unfit}
+use Rattle.marking.specs.declared.Ended.TheVariants.{Open, Refused, Found, Unfit, Other}
 use Rattle.marking.specs.declared.Standing.{Standing}
 
 -- How a walk ended, as the dock's definition has it: with nothing told yet, at a refused code, or at the last packet.
@@ -14,6 +14,7 @@ swept_of Open = unfinished
 swept_of (Refused code) = fatal code
 swept_of (Found code) = found code
 swept_of Unfit = unfinished
+swept_of (Other number code) = unfinished
 
 abbrev pub swept_by : Standing → Swept
 swept_by s = swept_of s.ended

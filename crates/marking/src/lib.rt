@@ -24,13 +24,15 @@ pub struct Block {
     pub slots: usize,
 }
 
-// How a walk has ended, as far as it has come: not yet; at a refused code, or at the last packet, with the event's code; or not begun, for its block does not fit.
+// How a walk has ended, as far as it has come: not yet; at a refused code, or at the last packet, with the event's code; or not begun, for its block does
+// not fit. Any other numbers that a caller gives for an ending and its code end no walk.
 #[derive(Clone, Copy)]
 pub enum Ended {
     Open,
     Refused(u32),
     Found(u32),
     Unfit,
+    Other(u32, u32),
 }
 
 // Where a walk stands: the next packet and the place of its TRB; the first packet and the end; and how it ended.

@@ -1,2 +1,3 @@
 -- What the contracts of `page` cite.
 pub mod Page
+pub mod Lent

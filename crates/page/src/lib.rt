@@ -4,13 +4,22 @@
 
 ghost use Rattle.std.specs.Prelude.{◌≡◌, ◌≤◌, ◌∷◌};
 ghost use Rattle.page.specs.Page.{put, put_all, decimal_field, hex_field, flag_field, newline};
-
-use std::marker::Model;
+ghost use Rattle.page.specs.Lent.{shown, loan};
 
 // The descriptor of standard output.
 const STDOUT: i32 = 1;
 
-// Bytes that the caller lends, of which `at` stand on the page. Contracts see the pair of both.
+// The bytes that stand on lent ones are written, and none stands there.
+pub fn flush(out: &[u8], at: usize) -> usize
+    ensures { result ≡ 0 }
+{
+    let end = at.min(out.len());
+    io::write_all(STDOUT, &out[..end]);
+    0
+}
+
+// Bytes that the caller lends, of which `at` stand on the page. Contracts see the pair of both, and that the loan stays the same, so that the lender
+// knows its bytes afterwards.
 // No invariant says `at ≤ length bytes`: a page without room counts the byte that it cannot hold.
 #[derive(Drop)]
 pub struct Page<'a> {
@@ -18,52 +27,58 @@ pub struct Page<'a> {
     at: usize,
 }
 
-impl<'a> Model for Page<'a> {
-    ghost use Rattle.std.specs.Prelude.{ℕ, List};
-
-    ghost Value = { ℕ × List ℕ };
-
-    ghost view = { λ p. (p.at, p.bytes.now) };
-}
-
 impl<'a> Page<'a> {
     // A page on which nothing stands.
+    #[tactic(auto, unfolding(crate::specs::Lent::shown))]
     pub fn new(bytes: &'a mut [u8]) -> Page<'a>
-        ensures { result ≡ (0, bytes.old) }
+        ensures page { shown result ≡ (0, bytes.old) }
+        ensures same_bytes { loan result ≡ bytes.entry.ghost_name }
     {
         Page { bytes, at: 0 }
     }
 
     // One on which so many bytes stand already.
+    #[tactic(auto, unfolding(crate::specs::Lent::shown))]
     pub fn begun(bytes: &'a mut [u8], at: usize) -> Page<'a>
-        ensures { result ≡ (at, bytes.old) }
+        ensures page { shown result ≡ (at, bytes.old) }
+        ensures same_bytes { loan result ≡ bytes.entry.ghost_name }
     {
         Page { bytes, at }
     }
 
+    // How many bytes stand on it.
+    #[tactic(auto, unfolding(crate::specs::Lent::shown))]
+    pub fn at(&self) -> usize
+        ensures { result ≡ (shown self.now).0 }
+    {
+        self.at
+    }
+
     // The page is over: how many bytes stand on it, and the bytes.
+    #[tactic(auto, unfolding(crate::specs::Lent::shown))]
     pub fn into_bytes(self) -> (usize, &'a mut [u8])
-        ensures { (result.0, result.1.now) ≡ self.entry }
+        ensures page { (result.0, result.1.now) ≡ shown self.entry }
+        ensures same_bytes { result.1.ghost_name ≡ loan self.entry }
     {
         (self.at, self.bytes)
     }
 
     // What stands on the page is written, and nothing stands there.
+    #[tactic(auto, unfolding(crate::specs::Lent::shown))]
     pub fn flush(&mut self)
-        ensures { self.new ≡ (0, self.old.1) }
+        ensures page { shown self.new ≡ (0, (shown self.old).1) }
+        ensures same_bytes { loan self.new ≡ loan self.old }
     {
-        // Taken out and put back: of bytes lent on from behind the page the check does not see that they stay.
-        let bytes = std::mem::take(&mut self.bytes);
-        let end = self.at.min(bytes.len());
-        io::write_all(STDOUT, &bytes[..end]);
-        self.bytes = bytes;
-        self.at = 0;
+        // Under a name of its own: of bytes lent on from behind the page the check does not see that they stay.
+        let bytes = &mut *self.bytes;
+        self.at = flush(bytes, self.at);
     }
 
     // One byte.
-    #[tactic(auto, unfolding(crate::specs::Page::put))]
+    #[tactic(auto, unfolding(crate::specs::Page::put, crate::specs::Lent::shown))]
     pub fn put(&mut self, b: u8)
-        ensures { self.new ≡ put self.old b }
+        ensures page { shown self.new ≡ put (shown self.old) b }
+        ensures same_bytes { loan self.new ≡ loan self.old }
     {
         if self.at < self.bytes.len() {
             self.bytes[self.at] = b;
@@ -80,7 +95,8 @@ impl<'a> Page<'a> {
     // Bytes in order.
     #[tactic(auto, unfolding(crate::specs::Page::put_all))]
     pub fn put_text(&mut self, text: &[u8])
-        ensures { self.new ≡ put_all self.old text.now }
+        ensures page { shown self.new ≡ put_all (shown self.old) text.now }
+        ensures same_bytes { loan self.new ≡ loan self.old }
     {
         for &b in text {
             self.put(b);
@@ -90,7 +106,8 @@ impl<'a> Page<'a> {
     // A newline.
     #[tactic(auto, unfolding(crate::specs::Page::put_all))]
     pub fn put_end(&mut self)
-        ensures { self.new ≡ put_all self.old newline }
+        ensures page { shown self.new ≡ put_all (shown self.old) newline }
+        ensures same_bytes { loan self.new ≡ loan self.old }
     {
         self.put(b'\n');
     }
@@ -98,7 +115,8 @@ impl<'a> Page<'a> {
     // A field: a tab, and its text.
     #[tactic(auto, unfolding(crate::specs::Page::put_all))]
     fn put_field(&mut self, text: &[u8])
-        ensures { self.new ≡ put_all self.old (9 ∷ text.now) }
+        ensures page { shown self.new ≡ put_all (shown self.old) (9 ∷ text.now) }
+        ensures same_bytes { loan self.new ≡ loan self.old }
     {
         self.put(b'\t');
         self.put_text(text);
@@ -107,7 +125,8 @@ impl<'a> Page<'a> {
     // A number as a field: a tab, and its digits.
     #[tactic(auto, using(crate::proofs::TextLaws::decimal_text), unfolding(crate::specs::Page::decimal_field))]
     pub fn put_decimal(&mut self, n: u64)
-        ensures { self.new ≡ put_all self.old (decimal_field n) }
+        ensures page { shown self.new ≡ put_all (shown self.old) (decimal_field n) }
+        ensures same_bytes { loan self.new ≡ loan self.old }
     {
         let mut text = [0u8; 20];
         let k = io::decimal(n, &mut text);
@@ -118,7 +137,8 @@ impl<'a> Page<'a> {
     #[tactic(auto, using(crate::proofs::TextLaws::hex_text), unfolding(crate::specs::Page::hex_field))]
     fn put_digits(&mut self, least: usize, n: u64)
         requires { (1 ≤ least) × (least ≤ 16) }
-        ensures { self.new ≡ put_all self.old (hex_field least n) }
+        ensures page { shown self.new ≡ put_all (shown self.old) (hex_field least n) }
+        ensures same_bytes { loan self.new ≡ loan self.old }
     {
         let mut text = [0u8; 16];
         let k = io::hex(n, least, &mut text);
@@ -126,22 +146,35 @@ impl<'a> Page<'a> {
     }
 
     pub fn put_hex(&mut self, n: u64)
-        ensures { self.new ≡ put_all self.old (hex_field 1 n) }
+        ensures page { shown self.new ≡ put_all (shown self.old) (hex_field 1 n) }
+        ensures same_bytes { loan self.new ≡ loan self.old }
     {
         self.put_digits(1, n);
     }
 
     // A word of 32 bits: eight hex digits.
     pub fn put_word(&mut self, w: u32)
-        ensures { self.new ≡ put_all self.old (hex_field 8 w) }
+        ensures page { shown self.new ≡ put_all (shown self.old) (hex_field 8 w) }
+        ensures same_bytes { loan self.new ≡ loan self.old }
     {
         self.put_digits(8, u64::from(w));
     }
 
     // A flag is 0 or 1.
     pub fn put_flag(&mut self, b: bool)
-        ensures { self.new ≡ put_all self.old (flag_field b) }
+        ensures page { shown self.new ≡ put_all (shown self.old) (flag_field b) }
+        ensures same_bytes { loan self.new ≡ loan self.old }
     {
         self.put_decimal(u64::from(b));
     }
+}
+
+// A text on lent bytes, of which `at` stand already: how many then stand there.
+#[tactic(auto, unfolding(crate::specs::Lent::shown))]
+pub fn put_lent(out: &mut [u8], at: usize, text: &[u8]) -> usize
+    ensures { (result, out.new) ≡ put_all (at, out.old) text.now }
+{
+    let mut page = Page::begun(out, at);
+    page.put_text(text);
+    page.at()
 }

@@ -18,7 +18,7 @@ use Rattle.mask.proofs.OccupancyLaws.{none_free}
 use Rattle.trb.specs.declared.Trb.{Trb}
 use Rattle.trb.specs.declared.Words.{Words}
 use Rattle.std.specs.Prelude.{Some}
-use Rattle.records.specs.Kinds.{control}
+use Rattle.records.specs.Kinds.{kind_number, control}
 use Rattle.records.proofs.KindLaws.{eq_kind}
 use Rattle.records.specs.Records.{record_at}
 use Rattle.records.specs.declared.Record.{Record}
@@ -394,7 +394,7 @@ same_trbs a b request lengths packet burst = by request.what
     by (asks.Interrupt incoming) = refl
     by (asks.Isoch incoming) = rw (packet, burst) refl
 
-control_kind : (what : What) → is_control what ≡ true → Some (kind_of what) ≡ control
+control_kind : (what : What) → is_control what ≡ true → kind_number (kind_of what) ≡ control
 control_kind (asks.Control type code value index) c = refl
 control_kind (asks.Bulk incoming) c = absurd (false≢true c)
 control_kind (asks.Interrupt incoming) c = absurd (false≢true c)

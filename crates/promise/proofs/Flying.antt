@@ -17,7 +17,6 @@ use Rattle.sizes.specs.Sizes.{record_count, record_words}
 use Rattle.ids.specs.Lookup.{find_in}
 use Rattle.mask.specs.Occupancy as masks
 use Rattle.mask.specs.declared.Occupancy.{Occupancy}
-use Rattle.records.specs.Kinds.{kind_in}
 use Rattle.records.specs.Records.{cancelled_word, recorded_word, record_at, set_word}
 use Rattle.records.proofs.RecordLaws.{word_kept}
 use Rattle.dock.specs.declared.Account.{Account}
@@ -51,7 +50,7 @@ same_set : (records : List ℕ) (r k value : ℕ) → k < record_words → (k �
 unfolding record_at
 same_set records r k value small a b alike = record {
   alike = alike;
-  kind = λ s. ap kind_in (word_kept records r k value s 1 (λ e. a (omega arith)));
+  kind = λ s. word_kept records r k value s 1 (λ e. a (omega arith));
   length = λ s. word_kept records r k value s 6 (λ e. b (omega arith));
 }
 

@@ -29,7 +29,7 @@ fn reclaim_flying(flight: Flight, records: &mut [u64], packets: &mut [u64]) -> A
     requires { (length records.old ≡ records_size) × (length packets.old ≡ packets_size) × (flight.claim.record.kind ≡ isoch → flight.claim.record.count ≤ packet_count) }
     ensures { (result, records.new, packets.new) ≡ reclaim_flying flight.entry.claim.endpoint flight.entry.finished.now records.old packets.old flight.entry.claim.record flight.entry.claim.number }
 {
-    match flight.claim.record.kind {
+    match Kind::from_word(flight.claim.record.kind) {
         Some(Kind::Control) => reclaim_control(flight, records),
         Some(Kind::Isoch) => reclaim_iso(flight, packets),
         Some(Kind::Bulk | Kind::Interrupt) => reclaim_bulk(flight),
@@ -55,7 +55,7 @@ fn reclaim_at(
         record: v,
         number: r,
     };
-    match v.state {
+    match State::from_word(v.state) {
         Some(State::Stopped) => claim.stopped(),
         Some(State::InFlight) => reclaim_flying(Flight { claim, finished }, records, packets),
         None => unfinished(e),

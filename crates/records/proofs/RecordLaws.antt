@@ -19,8 +19,6 @@ use Rattle.sizes.specs.Sizes.{record_words}
 use Rattle.ids.specs.Free.{id_at}
 use Rattle.records.specs.Records.{word_at, is_set, record_of, part_of, record_at, record_list, set_word}
 use Rattle.records.specs.declared.Record.{Record}
-use Rattle.records.proofs.KindLaws.{kind_read}
-use Rattle.records.proofs.StateLaws.{state_read}
 
 -- ---- a record by its words
 
@@ -60,7 +58,7 @@ flag_set false = refl
 
 -- The words of a record make that record.
 of_list : (v : Record) → record_of (part_of (record_list v)) ≡ v
-of_list v = rw (flag_set v.incoming, flag_set v.cancelled, state_read v.state, kind_read v.kind)
+of_list v = rw (flag_set v.incoming, flag_set v.cancelled)
 
 -- ---- a record that is put
 

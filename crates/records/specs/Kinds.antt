@@ -1,4 +1,4 @@
--- The kinds of a request, and their words in its record. Whatever a kind word says is one of the four, or none.
+-- The kinds of a request, and their words in its record. Whatever a kind word says is one of the four, or none; the record has the word.
 use Rattle.std.specs.Prelude.{ℕ, Bool, Option, Some, None, eqb}
 use Rattle.base.specs.First.{pick}
 use Rattle.sizes.specs.Sizes.{control_number, bulk_number, interrupt_number, isoch_number}
@@ -24,19 +24,19 @@ abbrev pub word_of_kind : Option Kind → ℕ
 word_of_kind None = 4
 word_of_kind (Some kind) = kind_number kind
 
--- Whether two are the same.
-abbrev pub kind_is : Option Kind → Option Kind → Bool
-kind_is kind this = eqb (word_of_kind kind) (word_of_kind this)
+-- Whether two kind words are the same.
+abbrev pub kind_is : ℕ → ℕ → Bool
+kind_is kind this = eqb kind this
 
 -- The four kinds, as a record's field has them.
-abbrev pub control : Option Kind
-control = Some Control
+abbrev pub control : ℕ
+control = control_number
 
-abbrev pub bulk : Option Kind
-bulk = Some Bulk
+abbrev pub bulk : ℕ
+bulk = bulk_number
 
-abbrev pub interrupt : Option Kind
-interrupt = Some Interrupt
+abbrev pub interrupt : ℕ
+interrupt = interrupt_number
 
-abbrev pub isoch : Option Kind
-isoch = Some Isoch
+abbrev pub isoch : ℕ
+isoch = isoch_number

@@ -2,8 +2,6 @@
 use Rattle.std.specs.Prelude.{ℕ, ◌+◌, ◌*◌, Bool, not, List, [], ◌∷◌, eqb, get_or, set}
 use Rattle.base.specs.Fields.{flag}
 use Rattle.sizes.specs.Sizes.{record_words}
-use Rattle.records.specs.Kinds.{kind_in, word_of_kind}
-use Rattle.records.specs.States.{state_in, word_of_state}
 use Rattle.records.specs.declared.Record.{Record}
 
 -- The words that change while a record is held.
@@ -29,9 +27,9 @@ abbrev pub record_of : (ℕ → ℕ) → Record
 record_of word =
     record {
       id = word 0;
-      kind = kind_in (word 1);
+      kind = word 1;
       incoming = is_set (word 2);
-      state = state_in (word state_word);
+      state = word state_word;
       cancelled = is_set (word cancelled_word);
       address = word 5;
       length = word 6;
@@ -53,9 +51,9 @@ record_at records r = record_of (word_at records r)
 abbrev pub record_list : Record → List ℕ
 record_list v =
     v.id
-    ∷ word_of_kind v.kind
+    ∷ v.kind
     ∷ flag v.incoming
-    ∷ word_of_state v.state
+    ∷ v.state
     ∷ flag v.cancelled
     ∷ v.address
     ∷ v.length

@@ -1,4 +1,5 @@
--- The states of a held record, and their words. Whatever a state word says is in flight, stopped, or neither.
+-- The states of a held record, and their words. Whatever a state word says is in flight, stopped, or neither; the record has the
+-- word.
 use Rattle.std.specs.Prelude.{ℕ, Bool, Option, Some, None, eqb}
 use Rattle.base.specs.First.{pick}
 use Rattle.records.specs.declared.State.{State}
@@ -17,13 +18,13 @@ abbrev pub word_of_state : Option State → ℕ
 word_of_state None = 0
 word_of_state (Some state) = state_number state
 
--- Whether two are the same.
-abbrev pub state_is : Option State → Option State → Bool
-state_is state this = eqb (word_of_state state) (word_of_state this)
+-- Whether two state words are the same.
+abbrev pub state_is : ℕ → ℕ → Bool
+state_is state this = eqb state this
 
 -- The two states of a held record, as its field has them.
-abbrev pub in_flight : Option State
-in_flight = Some InFlight
+abbrev pub in_flight : ℕ
+in_flight = 1
 
-abbrev pub stopped : Option State
-stopped = Some Stopped
+abbrev pub stopped : ℕ
+stopped = 2

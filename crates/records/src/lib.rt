@@ -1,18 +1,19 @@
 // The request records: twelve words for each of 64 records. Which of them are held stands in the occupancy, beside the table; a held record is
-// in flight or stopped. Every read is total: whatever words stand in the table, they say something.
+// in flight or stopped. Every read is total: whatever words stand in the table, they say something. A record holds the words of its kind and its
+// state as they stand; `Kind` and `State` read them.
 #![tactic(auto)]
 
 ghost use Rattle.std.specs.Prelude.{◌≡◌, ◌+◌, ◌*◌, ◌<◌, length};
 ghost use Rattle.base.specs.Fields.{flag};
 ghost use Rattle.base.specs.Part.{put};
 ghost use Rattle.sizes.specs.Sizes.{record_count, record_words, records_size};
-ghost use Rattle.records.specs.Kinds.{kind_number, kind_in};
-ghost use Rattle.records.specs.States.{state_number, state_in, word_of_state};
+ghost use Rattle.records.specs.Kinds.{kind_number, kind_in, kind_is};
+ghost use Rattle.records.specs.States.{state_number, state_in, state_is};
 ghost use Rattle.records.specs.Records.{record_of, part_of, record_at, record_list, set_word};
 
 use sizes::RECORD_WORDS;
 
-// The kinds of a request.
+// The kinds of a request. Their numbers stand in `sizes`.
 #[derive(Clone, Copy, PartialEq, Eq)]
 pub enum Kind {
     Control,
@@ -27,10 +28,10 @@ impl Kind {
         ensures { result ≡ kind_in word }
     {
         match word {
-            0 => Some(Kind::Control),
-            1 => Some(Kind::Bulk),
-            2 => Some(Kind::Interrupt),
-            3 => Some(Kind::Isoch),
+            sizes::CONTROL => Some(Kind::Control),
+            sizes::BULK => Some(Kind::Bulk),
+            sizes::INTERRUPT => Some(Kind::Interrupt),
+            sizes::ISOCH => Some(Kind::Isoch),
             _ => None,
         }
     }
@@ -41,16 +42,13 @@ impl From<Kind> for u64 {
 
     fn from(kind: Kind) -> u64 {
         match kind {
-            Kind::Control => 0,
-            Kind::Bulk => 1,
-            Kind::Interrupt => 2,
-            Kind::Isoch => 3,
+            Kind::Control => sizes::CONTROL,
+            Kind::Bulk => sizes::BULK,
+            Kind::Interrupt => sizes::INTERRUPT,
+            Kind::Isoch => sizes::ISOCH,
         }
     }
 }
-
-// A word that says no kind.
-const NO_KIND: u64 = 4;
 
 // The states of a held record.
 #[derive(Clone, Copy, PartialEq, Eq)]
@@ -83,13 +81,14 @@ impl From<State> for u64 {
     }
 }
 
-// What a request's later stores and its completion need.
+// What a request's later stores and its completion need. Its kind and its state are their words, any numbers, so that every word is told and put as it
+// stands: `Kind::from_word` and `State::from_word` read them.
 #[derive(Clone, Copy)]
 pub struct Record {
     pub id: u64,
-    pub kind: Option<Kind>,
+    pub kind: u64,
     pub incoming: bool,
-    pub state: Option<State>,
+    pub state: u64,
     pub cancelled: bool,
     pub address: u64,
     pub length: u64,
@@ -98,6 +97,22 @@ pub struct Record {
     pub count: u64,
     pub given: u64,
     pub recorded: u64,
+}
+
+impl Record {
+    // Does the kind word say this kind?
+    pub fn has_kind(self, kind: Kind) -> bool
+        ensures { result ≡ kind_is self.kind (kind_number kind) }
+    {
+        self.kind == u64::from(kind)
+    }
+
+    // Does the state word say this state?
+    pub fn has_state(self, state: State) -> bool
+        ensures { result ≡ state_is self.state (state_number state) }
+    {
+        self.state == u64::from(state)
+    }
 }
 
 // The words of a record that change while it is held.
@@ -114,9 +129,9 @@ fn record_of(part: &[u64]) -> Record
 {
     Record {
         id: part[0],
-        kind: Kind::from_word(part[1]),
+        kind: part[1],
         incoming: part[2] != 0,
-        state: State::from_word(part[3]),
+        state: part[3],
         cancelled: part[4] != 0,
         address: part[5],
         length: part[6],
@@ -144,9 +159,9 @@ impl From<Record> for [u64; RECORD_WORDS] {
     fn from(v: Record) -> [u64; RECORD_WORDS] {
         [
             v.id,
-            v.kind.map_or(NO_KIND, u64::from),
+            v.kind,
             u64::from(v.incoming),
-            v.state.map_or(0, u64::from),
+            v.state,
             u64::from(v.cancelled),
             v.address,
             v.length,

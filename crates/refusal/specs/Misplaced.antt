@@ -1,5 +1,5 @@
 -- The test of a record that is reclaimed.
-use Rattle.std.specs.Prelude.{ℕ, ◌+◌, Bool, ◌&&◌, ◌||◌, eqb, leb, ltb}
+use Rattle.std.specs.Prelude.{ℕ, ◌+◌, Bool, ◌&&◌, ◌||◌, leb, ltb}
 use Rattle.sizes.specs.Sizes.{packet_count}
 use Rattle.records.specs.Kinds.{kind_is, isoch}
 use Rattle.records.specs.States.{state_is, in_flight}

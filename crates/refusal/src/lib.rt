@@ -80,7 +80,7 @@ fn is_grounded(records: &[u64], occupancy: Occupancy, id: u64) -> bool
         None => true,
         Some(r) => {
             let v = records::record_at(records, r);
-            v.state != Some(State::InFlight)
+            !v.has_state(State::InFlight)
         }
     }
 }
@@ -113,9 +113,9 @@ fn is_fitted(e: Endpoint, finished: usize, records: &[u64], packets: usize) -> b
 fn is_misplaced(slots: usize, v: Record) -> bool
     ensures { result ≡ misplaced slots v }
 {
-    v.state == Some(State::InFlight)
+    v.has_state(State::InFlight)
         && (slots.saturating_sub(1) as u64 <= v.place
-            || v.kind == Some(Kind::Isoch) && (PACKET_COUNT as u64) < v.count)
+            || v.has_kind(Kind::Isoch) && (PACKET_COUNT as u64) < v.count)
 }
 
 fn is_bad(e: Endpoint, records: &[u64], id: u64) -> bool

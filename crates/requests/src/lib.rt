@@ -98,9 +98,9 @@ pub fn record_for(request: Request, count: usize, id: u64, place: usize) -> Reco
     let what = request.what;
     Record {
         id,
-        kind: Some(kind_of(what)),
+        kind: u64::from(kind_of(what)),
         incoming: incoming_of(what),
-        state: Some(State::InFlight),
+        state: u64::from(State::InFlight),
         cancelled: false,
         address: buffer_of(request),
         length: request.length,

@@ -5,7 +5,7 @@ use mathlib.Core.Path.{◌≡◌, refl, ap}
 use native.Mathlib.Numerals.{add-one}
 use Rattle.base.specs.First.{pick}
 use Rattle.mask.specs.declared.Occupancy.{Occupancy}
-use Rattle.records.specs.States.{word_of_state, stopped}
+use Rattle.records.specs.States.{stopped}
 use Rattle.records.specs.Records.{state_word, record_at, set_word}
 use Rattle.dock.specs.RowOne.{flies}
 use Rattle.dock.specs.Retire.{retired_below}
@@ -21,4 +21,4 @@ module _ (occupancy : Occupancy) (outstanding : ℕ) (records : List ℕ) where
   unfolding retired_below retire_one
   retired_more r e =
       rw (add-one r)
-      (ap (λ (s : ℕ × List ℕ). pick (flies s.1 occupancy r) (s.0 - (record_at s.1 r).count, set_word s.1 r state_word (word_of_state stopped)) s) e)
+      (ap (λ (s : ℕ × List ℕ). pick (flies s.1 occupancy r) (s.0 - (record_at s.1 r).count, set_word s.1 r state_word stopped) s) e)

@@ -17,7 +17,7 @@ pub fn is_flying(records: &[u64], occupancy: Occupancy, r: usize) -> bool
     requires { (length records.now ≡ records_size) × (r < record_count) }
     ensures { result ≡ flies records.now occupancy r }
 {
-    occupancy.is_held(r) && records::record_at(records, r).state == Some(State::InFlight)
+    occupancy.is_held(r) && records::record_at(records, r).has_state(State::InFlight)
 }
 
 // One record: a request in flight becomes stopped, and its TRBs leave outstanding, which never goes below 0.

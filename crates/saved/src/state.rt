@@ -69,10 +69,10 @@ fn narrow(e: Endpoint)
 {}
 
 // Every endpoint is what its words say: it is saved, and loaded again.
-#[tactic(auto, using(loaded::proofs::SavedLaws::save_state, loaded::proofs::SavedLaws::load_save), unfolding(loaded::specs::State::parsed))]
+#[tactic(auto, using(loaded::proofs::SavedLaws::save_fits, loaded::proofs::SavedLaws::load_save))]
 pub fn round_trip(e: Endpoint) -> Endpoint
     ensures { result ≡ e }
 {
     narrow(e);
-    loaded::load(&save(e)).unwrap()
+    loaded::load(&save(e))
 }

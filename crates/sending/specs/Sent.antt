@@ -1,5 +1,5 @@
 -- A whole submission by its kind, with the packet lengths read as they were given.
-use Rattle.std.specs.Prelude.{ℕ, ◌*◌, List, ◌≡◌, eqb, length, Ok}
+use Rattle.std.specs.Prelude.{ℕ, ◌*◌, List, ◌≡◌, length, Ok}
 use Rattle.std.proofs.Math.Seq.{paste}
 use Rattle.base.specs.First.{pick}
 use Rattle.ring.specs.declared.Position.{Position}

@@ -83,7 +83,7 @@ pub fn send(
     requires { Sendable e (length ring.old) (length finished.old) (length packets.old) × (v.kind ≡ isoch → length lengths.now ≤ packet_count) }
     ensures { (result, ring.new, finished.new, packets.new) ≡ sent_by e v ring.old finished.old packets.old lengths.now }
 {
-    if v.kind == Some(Kind::Isoch) {
+    if v.has_kind(Kind::Isoch) {
         return send_isoch(e, v, ring, finished, packets, lengths);
     }
     let p = put_plain(ring, finished, e, v);

@@ -1,7 +1,7 @@
 -- A line that has ended and can be read has a word: so `line_of` says what it is, and no line that the programs serve is one whose word is still coming.
 -- Assumes nothing.
 use Rattle.std.specs.Prelude.{Option, Some, None, is_none}
-use mathlib.Core.Bool.{Bool, true, false, not, true≢false, false≢true}
+use mathlib.Core.Bool.{Bool, true, false, not, ◌||◌, true≢false, false≢true}
 use mathlib.Core.List.{List}
 use Prim.Native.Nat.{ℕ}
 use mathlib.Core.Path.{◌≡◌, refl, sym, ◌∙◌}
@@ -30,12 +30,17 @@ kept : (r : Reading) (values : List ℕ) (v : Option ℕ) → is_none r.word ≡
 kept r values None word = bad_worded r
 kept r values (Some v) word = λ g. word
 
+-- A field that is no word stands behind one that has ended.
+behind : (naming none : Bool) → (naming || none) ≡ false → none ≡ false
+behind true none e = absurd (true≢false e)
+behind false none e = e
+
 closed : (r : Reading) (values : List ℕ) → Worded (close r values).0
 unfolding close close_word close_number
 closed r values =
-    picked (λ (c : Reading × List ℕ). Worded c.0) (is_none r.word) (close_word r, values) (close_number r values)
+    picked (λ (c : Reading × List ℕ). Worded c.0) (r.naming || is_none r.word) (close_word r, values) (close_number r values)
     (λ t. named r (word_of r.letters))
-    (λ t. kept r values r.value t)
+    (λ t. kept r values r.value (behind r.naming (is_none r.word) t))
 
 not_good : (r : Reading) → not r.good ≡ true → Worded r
 not_good r t g = absurd (true≢false (sym t ∙ inverted r.good g))

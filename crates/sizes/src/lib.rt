@@ -40,3 +40,12 @@ pub const LONGEST_CONTROL: u64 = 65535;
 
 // The frame numbers: the next one moves "modulo 2,048".
 pub const FRAMES: u32 = 2048;
+
+// The kinds of a request, as its record has them; in the definitions their names end in `_number`.
+pub const CONTROL: u64 = 0;
+
+pub const BULK: u64 = 1;
+
+pub const INTERRUPT: u64 = 2;
+
+pub const ISOCH: u64 = 3;

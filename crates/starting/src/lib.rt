@@ -24,6 +24,17 @@ fn record_taken(occupancy: Occupancy) -> usize
     occupancy.lowest().unwrap_or(0)
 }
 
+// The lengths, one behind the other, from a word on. A loop, since `copy_from_slice` of a length known at run time needs `memmove`, which the archive for
+// C asks of nobody else.
+fn copy_lengths(packets: &mut [u64], start: usize, lengths: &[u64])
+    requires { start + length lengths.now ≤ length packets.old }
+    ensures { packets.new ≡ paste packets.old start lengths.now (length lengths.now) }
+{
+    for (i, &n) in lengths.iter().enumerate() {
+        packets[start + i] = n;
+    }
+}
+
 // "No packets means one packet of length 0."
 fn write_lengths(packets: &mut [u64], number: usize, lengths: &[u64])
     requires { (packet_count * number + packet_count ≤ length packets.old) × (length lengths.now ≤ packet_count) }
@@ -33,7 +44,7 @@ fn write_lengths(packets: &mut [u64], number: usize, lengths: &[u64])
     if lengths.is_empty() {
         packets[start] = 0;
     } else {
-        packets[start..start + lengths.len()].copy_from_slice(lengths);
+        copy_lengths(packets, start, lengths);
     }
 }
 

@@ -62,7 +62,7 @@ pub fn frame_after(frame: u16, interval: u8) -> u16
 fn frame_on(e: Endpoint, v: Record) -> u16
     ensures { result ≡ frame_on e v }
 {
-    if v.kind == Some(Kind::Isoch) {
+    if v.has_kind(Kind::Isoch) {
         frame_after(e.periodic.frame, e.periodic.interval)
     } else {
         e.periodic.frame
@@ -73,7 +73,7 @@ fn frame_on(e: Endpoint, v: Record) -> u16
 fn run_on(e: Endpoint, v: Record, size: u32) -> u64
     ensures { result ≡ run_with e v size }
 {
-    if v.kind == Some(Kind::Isoch) {
+    if v.has_kind(Kind::Isoch) {
         e.work.address.wrapping_add(size as u64)
     } else {
         e.work.address

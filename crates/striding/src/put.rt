@@ -4,7 +4,7 @@ ghost use Rattle.ring.specs.declared.Manner.TheVariants.{Onward};
 ghost use Rattle.striding.specs.Stride.{Placed, link_on, put_trb};
 
 use dock::Shape;
-use ring::{Manner, Position};
+use ring::Position;
 use trb::Trb;
 
 // "Reaching L-1 it adds a second store, the link at L-1 with the old cycle, then place 0 and the cycle toggled."
@@ -20,7 +20,7 @@ fn link_on(ring: &mut [u32], shape: Shape, chain: bool, p: Position) -> Position
 }
 
 // A TRB with the current cycle; or, deferred, with the opposite one: the controller does not take it yet.
-#[tactic(auto, unfolding(crate::specs::Stride::put_trb, crate::specs::Stride::link_on, ring::specs::Ring::stored_by))]
+#[tactic(auto, unfolding(crate::specs::Stride::put_trb, crate::specs::Stride::link_on))]
 pub fn put_trb(
     ring: &mut [u32],
     finished: &mut [u32],
@@ -34,6 +34,10 @@ pub fn put_trb(
     ensures { ((result, ring.new, finished.new) ≡ put_trb shape chain p trb (Onward deferred) ring.old finished.old) × (result.place + 1 < shape.slots) }
 {
     finished::clear_finished(finished, p.place);
-    let q = ring::stored(ring, p, trb, Manner::Onward { deferred });
+    let q = if deferred {
+        ring::enque_transfer_deferred_cycle(ring, p, trb)
+    } else {
+        ring::enque_transfer(ring, p, trb)
+    };
     link_on(ring, shape, chain, q)
 }

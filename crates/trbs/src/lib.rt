@@ -134,7 +134,7 @@ pub fn trb_of(e: Endpoint, v: Record, size: u32, k: usize) -> Trb
     requires { k ≤ packet_count }
     ensures { result ≡ trb_with e v size k }
 {
-    match v.kind {
+    match Kind::from_word(v.kind) {
         Some(Kind::Control) => control_trb(v, k),
         Some(Kind::Isoch) => isoch_trb(e, v, size, k),
         _ => normal_trb(e, v),

@@ -93,7 +93,7 @@ pub fn reclaim_iso(flight: Flight, packets: &mut [u64]) -> After<Reclaimed>
 {
     let claim = flight.claim;
     match walk_over(flight, packets) {
-        Ended::Open | Ended::Unfit => unfinished(claim.endpoint),
+        Ended::Open | Ended::Unfit | Ended::Other(..) => unfinished(claim.endpoint),
         Ended::Refused(code) => claim.completed(code, true, 0),
         Ended::Found(code) => {
             let size = total_of(packets, claim.number, claim.record.count as usize);

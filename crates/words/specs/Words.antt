@@ -1,8 +1,8 @@
 -- The words of a session and of a drive, and the fields that each takes. Document 01, "A session is lines of text"; a drive's words are in docs/DRIVE.md.
-use Rattle.std.specs.Prelude.{ℕ, ◌+◌, ◌-◌, ◌*◌, ◌/◌, ◌^◌, Bool, true, false, ◌||◌, List, [], ◌∷◌, eqb, Option, None, Some}
+use Rattle.std.specs.Prelude.{ℕ, ◌+◌, ◌-◌, ◌*◌, ◌/◌, ◌^◌, Bool, true, false, ◌||◌, List, [], ◌∷◌, eqb, Option, None, Some, unwrap_or}
 use Rattle.base.specs.First.{pick}
 use Rattle.words.specs.declared.Word.{Word}
-use Rattle.words.specs.declared.Word.TheVariants.{Ring, Control, Bulk, Iso, Event, Reclaim, Cancel, Configure, Interrupt, Begin, Store, Whole, Slot, Retire, Stop, Resume, Reset, End, Pointer, Step, NextId, Poke, State, New, Finished, Records, Packets}
+use Rattle.words.specs.declared.Word.TheVariants.{Ring, Control, Bulk, Iso, Event, Reclaim, Cancel, Configure, Interrupt, Begin, Store, Whole, Slot, Retire, Stop, Resume, Reset, End, Pointer, Step, NextId, Poke, State, New, Finished, Records, Packets, Other}
 
 -- The letters of a word make a number, a to z as the digits 1 to 26 of base 32; `spelling` has every word's letters beside it.
 abbrev pub ring_word : ℕ
@@ -147,6 +147,10 @@ word_of n =
     (pick (eqb n finished_word) (Some Finished)
     (pick (eqb n records_word) (Some Records)
     (pick (eqb n packets_word) (Some Packets) None))))))))))))))))))))))))))
+
+-- What any letters make: one of the words, or another.
+unfoldable pub of_letters : ℕ → Word
+of_letters n = unwrap_or (word_of n) (Other n)
 
 -- ---- the kinds of fields
 

@@ -1,13 +1,13 @@
 // The words of a session and of a drive, and the fields that each takes.
 //
 // The letters of a word are read as the number that they make, a to z as the digits 1 to 26 of base 32: then nothing of a word is kept but a number, and
-// no two words make one number. Where the letters end the number is looked up, once, and from there on a word is a `Word`. The fields that a word takes
+// no two words make one number. Where the letters end the number is looked up, and from there on a word is a `Word`. The fields that a word takes
 // are a form: a number whose hex digits, from the lowest, are the kinds of the fields in order. It is a number and no list of an enum, so that what is
 // known of a line between two of its bytes borrows nothing.
 #![tactic(auto)]
 
 ghost use Rattle.std.specs.Prelude.{◌≡◌, ◌||◌, eqb};
-ghost use Rattle.words.specs.Words.{word_of, session_form, is_bare, takes_count, takes_name, drive_form, request_form, table_form};
+ghost use Rattle.words.specs.Words.{word_of, of_letters, session_form, is_bare, takes_count, takes_name, drive_form, request_form, table_form};
 ghost use Rattle.words.specs.Words.{form_of, is_hex, base_of, most_of, rest_of};
 
 #[derive(Clone, Copy, PartialEq, Eq)]
@@ -41,6 +41,8 @@ pub enum Word {
     Finished,
     Records,
     Packets,
+    // Letters that make none of these, and their number.
+    Other(u64),
 }
 
 impl Word {
@@ -79,6 +81,14 @@ impl Word {
             17216935571 => Some(Word::Packets),
             _ => None,
         }
+    }
+
+    // What any letters make: one of the words, or another.
+    #[tactic(auto, unfolding(crate::specs::Words::of_letters))]
+    pub fn of_letters(letters: u64) -> Word
+        ensures { result ≡ of_letters letters }
+    {
+        Word::from_letters(letters).unwrap_or(Word::Other(letters))
     }
 }
 
